@@ -5,3 +5,4 @@ pub mod Exists
 pub mod Steps
 pub mod Only
 pub mod Ends
+pub mod Begun

@@ -5,6 +5,7 @@ pub mod Division
 pub mod Arguments
 pub mod Machine
 pub mod Agreement
+pub mod LogDivision
 pub mod Lawful
 pub mod Canonical
 pub mod Resume

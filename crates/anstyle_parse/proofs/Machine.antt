@@ -19,3 +19,7 @@ pub mod AsReadTo
 pub mod AsReadStreams
 pub mod AsReadTwice
 pub mod AsReadText
+pub mod LogReading
+pub mod LogLength
+pub mod LogQuoted
+pub mod AsReadParts

@@ -2,6 +2,8 @@
 -- checkpoint, the Debug text of parameters and its law.
 pub mod Lawful
 pub mod TextLength
+pub mod Lighter
+pub mod LogItems
 pub mod Checkpoint
 pub mod DebugText
 pub mod TextLaw

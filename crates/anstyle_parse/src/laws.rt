@@ -15,9 +15,11 @@ ghost use Rattle.anstyle_parse.specs.Views.CanonWriter.{output_of};
 ghost use Rattle.anstyle_parse.specs.Stream.Characters.{is_proper_front, IsProperFront};
 ghost use Rattle.anstyle_parse.specs.Stream.Items.{Item, IsDivision};
 ghost use Rattle.anstyle_parse.specs.Laws.Lawful.{AreLawful, AreMade};
+ghost use Rattle.anstyle_parse.specs.Laws.Lighter.{AreEnough};
+ghost use Rattle.anstyle_parse.specs.Laws.LogItems.{IsLogDivision, read_items, read_items_whole};
 ghost use Rattle.anstyle_parse.specs.Laws.TextLength.{text_length};
 ghost use Rattle.anstyle_parse.specs.Io.Output.{Adds};
-ghost use Rattle.anstyle_parse.specs.Machine.AsRead.{as_read};
+ghost use Rattle.anstyle_parse.specs.Machine.AsRead.{as_read, as_read_whole};
 ghost use Rattle.anstyle_parse.specs.Machine.Step.{machine_calls};
 ghost use Rattle.anstyle_parse.specs.Views.Parser.{machine_of, AreBelow, IsAfter, IsAfterAscii};
 ghost use Rattle.anstyle_parse.specs.Machine.State.{state_number, action_number};
@@ -162,11 +164,44 @@ pub fn canonical_text<W: Sink>()
 {}
 
 /// A log as it is read ([`Parser::advance_log`]), read again, is the same; and well-formed UTF-8 without ESC is read as
-/// it is.
+/// it is, also at its end. A log may be cut before any ESC byte, and its parts read apart.
 pub fn read_logs()
     ensures again { (bytes : List ℕ) → as_read (as_read bytes) ≡ as_read bytes }
     ensures text { (bytes : List ℕ) → AreBelow 0x100 bytes → IsUtf8 bytes
         → AllByRecursion (λ b. b ≢ escape_byte) bytes → as_read bytes ≡ bytes }
+    ensures text_end { (bytes : List ℕ) → AreBelow 0x100 bytes → IsUtf8 bytes
+        → AllByRecursion (λ b. b ≢ escape_byte) bytes → as_read_whole bytes ≡ bytes }
+    ensures parts { (before bytes : List ℕ)
+        → as_read (before ++ escape_byte ∷ bytes) ≡ as_read before ++ as_read (escape_byte ∷ bytes) }
+    ensures parts_end { (before bytes : List ℕ)
+        → as_read_whole (before ++ escape_byte ∷ bytes) ≡ as_read before ++ as_read_whole (escape_byte ∷ bytes) }
+{}
+
+/// A log has one division into items, and no second one; and what is read of it is what is read of these, also at its end.
+pub fn items_of_logs()
+    ensures some { (log : List ℕ) → (items : List Item) × IsLogDivision items log }
+    ensures only { (log : List ℕ) (items others : List Item) → IsLogDivision items log → IsLogDivision others log
+        → others ≡ items }
+    ensures read { (log : List ℕ) (items : List Item) → IsLogDivision items log → as_read log ≡ read_items items }
+    ensures read_end { (log : List ℕ) (items : List Item) → IsLogDivision items log
+        → as_read_whole log ≡ read_items_whole items }
+{}
+
+/// Bounds of logs: what is read of a log, also with its end, makes at most as many calls as the log has bytes, and leads
+/// to at most three bytes of text for each. As many bytes as the log has are enough for its calls, but for U+FFFD.
+pub fn log_bounds()
+    ensures calls { (bytes : List ℕ) (calls : List Call) → AreCalls (as_read bytes) calls
+        → length calls ≤ length bytes }
+    ensures calls_end { (bytes : List ℕ) (calls : List Call) → AreCalls (as_read_whole bytes) calls
+        → length calls ≤ length bytes }
+    ensures text { (bytes : List ℕ) (calls : List Call) → AreCalls (as_read bytes) calls
+        → sum_by text_length calls ≤ 3 * length bytes }
+    ensures text_end { (bytes : List ℕ) (calls : List Call) → AreCalls (as_read_whole bytes) calls
+        → sum_by text_length calls ≤ 3 * length bytes }
+    ensures enough { (bytes : List ℕ) (calls : List Call) → AreCalls (as_read bytes) calls
+        → AreEnough (length bytes) calls }
+    ensures enough_end { (bytes : List ℕ) (calls : List Call) → AreCalls (as_read_whole bytes) calls
+        → AreEnough (length bytes) calls }
 {}
 
 /// Forgotten: after one ESC byte nothing counts that came before.

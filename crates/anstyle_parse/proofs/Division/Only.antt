@@ -74,7 +74,7 @@ ended_ignored between kind text b terminator_byte t = refl
 ended_ignored between kind text b c t = cc
 
 -- a byte that completes a body ends it
-grow-complete : (body : Body) (b : ℕ) → IsTrue (completes body b) → grow (inside body) b ≡ ended body b
+pub grow-complete : (body : Body) (b : ℕ) → IsTrue (completes body b) → grow (inside body) b ≡ ended body b
 unfolding grow
 grow-complete (escape bytes) b h = ended_escape bytes b (class_of b)
     (sym (ap (λ t. t && (list_any is_intermediate bytes || not (is_introducer b))) (is_last-class b)
@@ -91,7 +91,7 @@ cancel_body : (body : Body) (b : ℕ) (c : Class) → is_cancel_at c ≡ true �
 cancel_body body b cancel_byte t = refl
 cancel_body body b c t = cc
 
-grow-cancel : (body : Body) (b : ℕ) → IsTrue (is_cancel b) → grow (inside body) b ≡ done (sequence body (cancelled b))
+pub grow-cancel : (body : Body) (b : ℕ) → IsTrue (is_cancel b) → grow (inside body) b ≡ done (sequence body (cancelled b))
 unfolding grow
 grow-cancel body b h = cancel_body body b (class_of b) (sym (is_cancel-class b) ∙ h)
 
@@ -113,14 +113,14 @@ start-single b lead_byte s t = cc
 start-single b c s t = refl
 
 -- a byte that begins nothing is an item
-grow-single : (b : ℕ) → IsTrue (not (is_escape b || is_lead b)) → grow nothing b ≡ done (single b)
+pub grow-single : (b : ℕ) → IsTrue (not (is_escape b || is_lead b)) → grow nothing b ≡ done (single b)
 unfolding grow
 grow-single b h =
     let parts = or_parts (is_escape b) (is_lead b) (not-true (is_escape b || is_lead b) h) in
     start-single b (class_of b) (sym (is_escape-class b) ∙ parts.0) (sym (is_lead-class b) ∙ parts.1)
 
 -- the last byte of a character
-grow-whole : (bytes : List ℕ) (b : ℕ) → IsTrue (is_well_formed (bytes ++ b ∷ [])) → grow (front bytes) b ≡ done (character (bytes ++ b ∷ []))
+pub grow-whole : (bytes : List ℕ) (b : ℕ) → IsTrue (is_well_formed (bytes ++ b ∷ [])) → grow (front bytes) b ≡ done (character (bytes ++ b ∷ []))
 unfolding grow
 grow-whole bytes b h = cond-true (is_well_formed (bytes ++ b ∷ [])) (done (character (bytes ++ b ∷ [])))
     (if is_proper_front (bytes ++ b ∷ []) then more (front (bytes ++ b ∷ [])) else break_off bytes (grow nothing b)) h
@@ -137,12 +137,12 @@ grow-broken bytes b h =
     (false_from_ne_true (is_proper_front (bytes ++ b ∷ [])) (λ p. h (is.0 (is_front-proper (bytes ++ b ∷ []) p))))
 
 -- a list that is not empty, as what stands before its last byte, and that byte
-ends_in : (b : ℕ) (x : List ℕ) → (front : List ℕ) × (last : ℕ) × (b ∷ x ≡ front ++ last ∷ [])
+pub ends_in : (b : ℕ) (x : List ℕ) → (front : List ℕ) × (last : ℕ) × (b ∷ x ≡ front ++ last ∷ [])
 ends_in b [] = ([], b, refl)
 ends_in b (c ∷ x) = let others = ends_in c x in (b ∷ others.0, others.1, ap (λ y. b ∷ y) others.2)
 
 -- one byte alone is no character
-one_byte : (b : ℕ) → IsTrue (is_well_formed (b ∷ [])) → ⊥
+pub one_byte : (b : ℕ) → IsTrue (is_well_formed (b ∷ [])) → ⊥
 one_byte b h = both_ways (is_well_formed (b ∷ []))
     (is_well_formed-proper (b ∷ []) (is_proper_front-lead b (is_lead-front b [] (is_front-well_formed (b ∷ []) h)))) h
 

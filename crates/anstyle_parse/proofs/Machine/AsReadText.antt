@@ -1,6 +1,6 @@
 -- Well-formed UTF-8 without ESC is read as it is.
 use Rattle.std.proofs.Common.{◌≡◌, ◌≢◌, ℕ, ◌<◌, ◌≤◌, ◌⊎◌, arith, IsTrue, true, refl, List, [], ◌∷◌, ◌++◌, ⊎_elim, inl, inr, ap, sym, ◌∙◌, subst, append-nil}
-use Rattle.std.specs.Prelude.{encode_utf8}
+use Rattle.std.specs.Prelude.{encode_utf8, ⊤}
 use Rattle.std.specs.Char.{IsScalar}
 use Rattle.std.specs.List.{AllByRecursion}
 use Rattle.std.specs.Str.{IsUtf8, encode_utf8_all, all_scalars}
@@ -14,16 +14,20 @@ use Rattle.anstyle_parse.specs.declared.utf8.Front.TheVariants.{Empty}
 use Rattle.anstyle_parse.specs.Stream.Bytes.{is_within}
 use Rattle.anstyle_parse.specs.Stream.Texts.{is_layout}
 use Rattle.anstyle_parse.specs.Laws.Lawful.{is_character}
-use Rattle.anstyle_parse.specs.Machine.AsRead.{read_for, read_from, as_read}
+use Rattle.anstyle_parse.specs.Machine.AsRead.{read_for, read_from, as_read, as_read_whole, break_in}
+use Rattle.anstyle_parse.specs.Machine.Decoder.{decoded}
 use Rattle.anstyle_parse.specs.Machine.Step.{Machine, new_machine, step, machine_after}
 use Rattle.anstyle_parse.specs.Machine.Table.{◌by◌, change_at}
-use Rattle.anstyle_parse.specs.Views.Accumulator.{parser_after}
+use Rattle.anstyle_parse.specs.Views.Accumulator.{front_of, parser_after, parser_added}
+use Rattle.anstyle_parse.specs.Views.DecodingProof.{Decodes-parser_after}
 use Rattle.anstyle_parse.specs.Views.Parser.{AreBelow}
 use Rattle.anstyle_parse.specs.Views.Texts.{is_text_character}
 use Rattle.anstyle_parse.proofs.Characters.Encoding.{within, encode_one}
+use Rattle.anstyle_parse.proofs.Agreement.Whole.{machine_after-append}
 use Rattle.anstyle_parse.proofs.Machine.AsRead.{AreReadAsTheyAre, as_they_are-none, as_they_are-byte, as_they_are-append, read_for-no_string}
 use Rattle.anstyle_parse.proofs.Machine.AsReadStreams.{read_from-seen}
 use Rattle.anstyle_parse.proofs.Machine.AsReadTo.{characters-read}
+use Rattle.anstyle_parse.proofs.Machine.Seen.{Seen-machine}
 use Rattle.anstyle_parse.proofs.Machine.Runs.{change_at-control, change_at-within, step-by}
 use Rattle.anstyle_parse.proofs.Machine.Texts.{Prints, characters-taken}
 
@@ -101,21 +105,39 @@ module _ (m : Machine Utf8Parser) (ground : m.state ≡ Ground) (empty : m.accum
       (λ (high : 0x20 ≤ c). text-stays c (scalar-text c scalar high))
       (cases_lt c 0x20)
 
-  scalars-read : (cs : List ℕ) → all_scalars cs ≡ true → HasNoEscape (encode_utf8_all cs) → AreReadAsTheyAre parser_after m (encode_utf8_all cs)
+  pub scalars-stay : (cs : List ℕ) → all_scalars cs ≡ true → HasNoEscape (encode_utf8_all cs)
+      → AreReadAsTheyAre parser_after m (encode_utf8_all cs) × (machine_after parser_after (encode_utf8_all cs) m ≡ m)
   unfolding Stays
-  scalars-read [] scalars none = as_they_are-none parser_after m
-  scalars-read (c ∷ cs) scalars none =
+  scalars-stay [] scalars none = (as_they_are-none parser_after m, refl)
+  scalars-stay (c ∷ cs) scalars none =
       let each = and_parts _ _ scalars in
       let parts = no_escape-parts (encode_utf8 c) (encode_utf8_all cs) none in
       let first = scalar-stays c each.0 parts.0 in
-      let Q : Machine Utf8Parser → Type 0 = λ x. AreReadAsTheyAre parser_after x (encode_utf8_all cs) in
-      as_they_are-append parser_after m (encode_utf8 c) (encode_utf8_all cs) first.0 (subst Q (sym first.1) (scalars-read cs each.1 parts.1))
+      let rest = scalars-stay cs each.1 parts.1 in
+      let Q : Machine Utf8Parser → Type 0 = λ x. AreReadAsTheyAre parser_after x (encode_utf8_all cs) in (
+        as_they_are-append parser_after m (encode_utf8 c) (encode_utf8_all cs) first.0 (subst Q (sym first.1) rest.0),
+        machine_after-append parser_after (encode_utf8 c) (encode_utf8_all cs) m ∙ ap (machine_after parser_after (encode_utf8_all cs)) first.1 ∙ rest.1,
+      )
 
 pub as_read-text : (bytes : List ℕ) → AreBelow 0x100 bytes → IsUtf8 bytes → HasNoEscape bytes → as_read bytes ≡ bytes
 unfolding as_read AreReadAsTheyAre
 as_read-text bytes below (cs, (scalars, encoded)) none =
     let m : Machine Utf8Parser = new_machine (record { decoder = Empty }) in
-    let read = scalars-read m refl refl cs scalars (subst HasNoEscape (sym encoded) none) [] in
+    let read = (scalars-stay m refl refl cs scalars (subst HasNoEscape (sym encoded) none)).0 [] in
     sym (read_from-seen m bytes below)
     ∙ ap (read_from parser_after m) (sym encoded ∙ sym (append-nil (encode_utf8_all cs)))
     ∙ read ∙ append-nil (encode_utf8_all cs) ∙ encoded
+
+-- and nothing is begun at its end
+pub as_read_whole-text : (bytes : List ℕ) → AreBelow 0x100 bytes → IsUtf8 bytes → HasNoEscape bytes → as_read_whole bytes ≡ bytes
+unfolding as_read_whole
+as_read_whole-text bytes below (cs, (scalars, encoded)) none =
+    let m : Machine Utf8Parser = new_machine (record { decoder = Empty }) in
+    let same = as_read-text bytes below (cs, (scalars, encoded)) none in
+    let stays = (scalars-stay m refl refl cs scalars (subst HasNoEscape (sym encoded) none)).1 in
+    let state : (machine_after decoded (as_read bytes) (new_machine [])).state ≡ Ground =
+    ap (λ l. (machine_after decoded l (new_machine [])).state) same
+    ∙ ap (λ (x : Machine (List ℕ)). x.state) (sym (Seen-machine front_of (λ _ _. ⊤) parser_added parser_after Decodes-parser_after bytes below m).0)
+    ∙ ap (λ l. (machine_after parser_after l m).state) (sym encoded)
+    ∙ ap (λ (x : Machine Utf8Parser). x.state) stays in
+    ap (λ s. as_read bytes ++ break_in s) state ∙ append-nil (as_read bytes) ∙ same

@@ -45,7 +45,7 @@ GROUPS = {
 CALLERS = {"filter": ("examples/filter.c", "ansi"), "safe": ("examples/safe.c", "ansi"), "screen": ("examples/screen.c", "ansi_screen")}
 CALLERS["events"] = ("tests/callers/events.c", "ansi")
 LIMITS = '''"""What tests/costs_hostile.py wrote, a twentieth above what was taken: of each group and stream, by each of the commands of that group, the
-instructions for each byte, and the bytes of output for each byte."""
+instructions for each byte, None where they were not counted, and the bytes of output for each byte."""
 '''
 
 

@@ -1,5 +1,5 @@
 """What tests/costs_hostile.py wrote, a twentieth above what was taken: of each group and stream, by each of the commands of that group, the
-instructions for each byte, and the bytes of output for each byte."""
+instructions for each byte, None where they were not counted, and the bytes of output for each byte."""
 MOST = {
     ("lines and addresses", "a link of quotes for each letter"): [(None, 6.23), (None, 6.23), (None, 6.23), (None, 6.23), (None, 6.23)],
     ("lines and addresses", "a long style, plain in turns"): [(None, 6.36), (None, 6.36), (None, 6.36), (None, 6.36), (None, 6.36)],

@@ -1,12 +1,16 @@
 #!/usr/bin/env python3
 """The hostile streams of tests/costs for lines, addresses, pages, screens and the library: what each takes at most.
 
-Usage: tests/costs_hostile.py [--help] [NAME=PATH ..]
+Usage: tests/costs_hostile.py [--help] [--output] [NAME=PATH ..] > tests/hostile_limits.py
 
-MOST is the one place that has the limits. By hand this script writes it anew, a twentieth above what the programs take (NAME=PATH as for
-tests/costs): whoever makes something cheaper, or dearer for a reason, puts that in its place.
+    --output    the bytes of output alone, which are the same where nothing is proved: None in the place of the instructions, which then have no limit
+    NAME=PATH   as for tests/costs
+
+The limits stand in one table, tests/hostile_limits.py. By hand this script writes it anew, a twentieth above what the programs take,
+where something got cheaper, or dearer for a reason.
 """
 
+import importlib.machinery
 import os
 import shutil
 import subprocess
@@ -17,7 +21,6 @@ ROOT = os.path.dirname(os.path.dirname(os.path.realpath(__file__)))
 sys.path.insert(0, os.path.join(ROOT, "bench"))
 
 import hostile
-import measure
 
 HTML, FRAGMENT = "ansi2html", ["--fragment"]
 # The commands, each a program and its words, or a caller of the library; their streams, and the bytes of each.
@@ -41,8 +44,9 @@ GROUPS = {
 # The callers of the library, of examples and of tests/callers, with what they are linked to.
 CALLERS = {"filter": ("examples/filter.c", "ansi"), "safe": ("examples/safe.c", "ansi"), "screen": ("examples/screen.c", "ansi_screen")}
 CALLERS["events"] = ("tests/callers/events.c", "ansi")
-# For each stream, by each of the commands: the instructions for each byte, and the bytes of output for each byte.
-MOST = {}
+LIMITS = '''"""What tests/costs_hostile.py wrote, a twentieth above what was taken: of each group and stream, by each of the commands of that group, the
+instructions for each byte, None where they were not counted, and the bytes of output for each byte."""
+'''
 
 
 def built(folder):
@@ -58,14 +62,15 @@ def built(folder):
     return found
 
 
-def taken(counts, group, callers):
-    """What the commands of a group take: for each stream the instructions and the bytes of output of each; with None for one that is not built."""
+def taken(counts, group, callers, is_counted=True):
+    """What the commands of a group take: for each stream the instructions, where they are to be counted, and the bytes of output of each; with None
+    for a command that is not built."""
     commands, streams, size = GROUPS[group]
     commands = [[callers[name], *words] if name in callers else name not in CALLERS and counts.command(name, words) for name, words in commands]
     paths = {name: counts.stream("%s, %s" % (group, name), hostile.stream(it, size)) for name, it in streams.items()}
     runs = [(command, path) for path in [os.devnull, *paths.values()] for command in commands if command]
-    works, count = counts.counted(runs), len(list(filter(None, commands)))
-    lengths = list(counts.pool.map(lambda it: length_of(*it), runs))
+    works = counts.counted(runs) if is_counted else [0] * len(runs)
+    lengths, count = list(counts.pool.map(lambda it: length_of(*it), runs)), len(list(filter(None, commands)))
     for at, name in enumerate(paths, 1):
         part = slice(at * count, (at + 1) * count)
         each = zip(works[part], works[:count], lengths[part], lengths[:count])
@@ -75,29 +80,35 @@ def taken(counts, group, callers):
 
 def length_of(command, path):
     """The bytes of output of a command on a file."""
-    with open(path, "rb") as data, subprocess.Popen(command, stdin=data, stdout=subprocess.PIPE) as ran:
+    with open(path, "rb") as data, subprocess.Popen(command, stdin=data, stdout=subprocess.PIPE, stderr=subprocess.DEVNULL) as ran:
         return sum(map(len, iter(lambda: ran.stdout.read(1 << 20), b"")))
 
 
 def cases(counts, is_within):
+    from hostile_limits import MOST  # (which this script may be about to write)
+
     callers = built(counts.folder)
-    for group, (commands, _, _) in GROUPS.items():
-        for name, found in taken(counts, group, callers):
-            for (program, words), took, most in zip(commands, found, MOST.get((group, name)) or [(0, 0)] * len(commands)):
+    for group, (commands, streams, _) in GROUPS.items():
+        limits = {name: MOST.get((group, name)) or [(0, 0)] * len(commands) for name in streams}
+        is_counted = any(work is not None for each in limits.values() for work, _ in each)
+        for name, found in taken(counts, group, callers, is_counted):
+            for (program, words), took, (work, output) in zip(commands, found, limits[name]):
                 said = "%s on %s" % (" ".join([program, *words]), name)
+                if took and work is not None:
+                    yield is_within(said, took[0], work, "instructions a byte")
                 if took:
-                    yield is_within(said, took[0], most[0], "instructions a byte")
-                    yield is_within("the output of " + said, took[1], most[1], "times its length", True)
+                    yield is_within("the output of " + said, took[1], output, "times its length", True)
 
 
-def rows(counts):
-    """MOST, as it is to be written here."""
-    upper = lambda it: float("%.3g" % (it * 1.05)) if it >= 0 else 0
+def rows(counts, is_counted):
+    """The lines of tests/hostile_limits.py."""
+    upper = lambda it: float("%.3g" % (it * 1.05)) if it > 0 else 0
+    shown = lambda took: "(%s, %g)" % ("%g" % upper(took[0]) if is_counted else None, upper(took[1]))
     callers = built(counts.folder)
-    yield "MOST = {"
+    yield LIMITS + "MOST = {"
     for group in GROUPS:
-        for name, found in taken(counts, group, callers):
-            yield "    (%r, %r): [%s]," % (group, name, ", ".join("(%g, %g)" % tuple(map(upper, it or (0, 0))) for it in found))
+        for name, found in taken(counts, group, callers, is_counted):
+            yield '    ("%s", "%s"): [%s],' % (group, name, ", ".join(shown(it or (0, 0)) for it in found))
     yield "}"
 
 
@@ -105,12 +116,11 @@ def main(words):
     if words == ["--help"]:
         print(__doc__.strip())
         return 0
-    import importlib.machinery
-
     costs = importlib.machinery.SourceFileLoader("costs", ROOT + "/tests/costs").load_module()
+    given = dict(word.partition("=")[::2] for word in words if word != "--output")
     with tempfile.TemporaryDirectory() as folder:
-        for row in rows(costs.Counts(dict(word.partition("=")[::2] for word in words), folder)):
-            print(row.replace("'", '"'), flush=True)
+        for row in rows(costs.Counts(given, folder), "--output" not in words):
+            print(row, flush=True)
     return 0
 
 

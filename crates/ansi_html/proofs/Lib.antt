@@ -40,4 +40,5 @@ pub mod InsideLemmas
 pub mod BlockLemmas
 pub mod BlockerLemmas
 pub mod PartLemmas
+pub mod WholeBlockLemmas
 pub mod UnderlineLemmas

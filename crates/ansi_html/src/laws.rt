@@ -6,7 +6,7 @@ ghost use Rattle.anstyle_parse.specs.Stream.Calls.{AreCalls};
 ghost use Rattle.ansi_strip.specs.Strip.{stripped};
 ghost use Rattle.ansi_html.specs.Html.{no_element, html};
 ghost use Rattle.ansi_html.specs.Lines.{lined_html};
-ghost use Rattle.ansi_html.specs.Blocks.{blocked_html, AreBlocksOf, AreBlocksOfFragments};
+ghost use Rattle.ansi_html.specs.Blocks.{blocked_html, AreBlocksOf, AreBlocks};
 ghost use Rattle.ansi_html.specs.Reader.{byte_of, seen, read, shown_from};
 
 use crate::scheme::{Scheme, Styling};
@@ -39,9 +39,11 @@ pub fn blocks()
     ensures lines { (styling : Styling) (calls : List Call)
         → AreBlocksOf (lined_html styling calls) (blocked_html true styling calls) }
 
-    // No markup comes in: of text each block is a fragment, as what `convert` writes is one.
-    ensures grammar { (styling : Styling) (bytes : List ℕ) (calls : List Call) → AreCalls bytes calls
-        → AreBlocksOfFragments styling (blocked_html false styling calls) }
+    // A block ends where a line ends: in each stand 500 whole lines, with their line feeds, and in the last one what is
+    // left, which is some and at most as many. No markup comes in: of text each block is a fragment, as what `convert`
+    // writes is one, and of numbered lines each line in it is an element with its number, as `convert_lines` writes them.
+    ensures grammar { (numbered : Bool) (styling : Styling) (bytes : List ℕ) (calls : List Call)
+        → AreCalls bytes calls → AreBlocks numbered styling 0 (blocked_html numbered styling calls) }
 
     // It is UTF-8, whatever was read.
     ensures utf8 { (numbered : Bool) (styling : Styling) (bytes : List ℕ) (calls : List Call) → AreCalls bytes calls

@@ -41,4 +41,6 @@ pub mod BlockLemmas
 pub mod BlockerLemmas
 pub mod PartLemmas
 pub mod WholeBlockLemmas
+pub mod LineBoundLemmas
+pub mod BlockBoundLemmas
 pub mod UnderlineLemmas

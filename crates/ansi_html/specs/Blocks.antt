@@ -160,3 +160,12 @@ pub data AreBlocks (numbered : Bool) (styling : Styling) : (number : ℕ) → Li
   last_block : (number : ℕ) (inside : List ℕ) → StandsInBlock numbered styling number inside
       → AreLinesUpTo lines_a_block (text_in inside)
       → AreBlocks numbered styling number (block_begin ++ (inside ++ block_end))
+
+-- The bytes that blocks take at most for each byte of a stream. Of text, for each of 500 lines its part of the tags of a
+-- block (23 and 7), and of the end and the beginning anew of the element in it, with the longest link. Of numbered lines,
+-- in which that stands in each line, these tags alone, as if each line had them.
+abbrev pub block_of_a_byte : ℕ
+block_of_a_byte = 14
+
+abbrev pub block_tags : ℕ
+block_tags = 30

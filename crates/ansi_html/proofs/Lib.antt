@@ -40,4 +40,7 @@ pub mod InsideLemmas
 pub mod BlockLemmas
 pub mod BlockerLemmas
 pub mod PartLemmas
+pub mod WholeBlockLemmas
+pub mod LineBoundLemmas
+pub mod BlockBoundLemmas
 pub mod UnderlineLemmas

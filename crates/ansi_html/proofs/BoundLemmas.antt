@@ -34,18 +34,18 @@ use Rattle.ansi_html.proofs.LengthLemmas.{AtMost, AtMost-end, AtMost-span_end, A
 use Rattle.ansi_html.proofs.WholeLemmas.{says_link}
 
 -- the units of a link, of a call, and of calls
-link_units : List ℕ → ℕ
+pub link_units : List ℕ → ℕ
 link_units [] = 3
 link_units (b ∷ link) = 5 + length (b ∷ link)
 
-pub units : Call → ℕ
+unfoldable pub units : Call → ℕ
 units (print c) = 1
 units (execute b) = 1
 units (osc_dispatch parts bell) = if is_link_command parts then link_units (link_of parts) else 0
 units (csi_dispatch gs is ig f) = 3
 units call = 0
 
-pub all_units : List Call → ℕ
+unfoldable pub all_units : List Call → ℕ
 all_units [] = 0
 all_units (call ∷ calls) = units call + all_units calls
 
@@ -226,7 +226,7 @@ module _ (styling : Styling) (rate span : ℕ) (much : 30 ≤ rate) (four : 4 * 
       by_case false true = omega (arith, four, changed)
       by_case false false = omega (arith, four, changed)
 
-  pending-same : (it : Element) (returned : Bool) → pending (in_element it returned) ≡ 0
+  pub pending-same : (it : Element) (returned : Bool) → pending (in_element it returned) ≡ 0
   unfolding pending_by
   pending-same it returned = ap₂ (λ linked same. pending_by linked same (length (link_begin styling it.link))) (bytes_eq-refl it.link) (are_equal-refl it.style)
 

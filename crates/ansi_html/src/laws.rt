@@ -1,15 +1,17 @@
 //! Laws of how colours are written. Each is the contract of a function that does nothing.
-ghost use Rattle.std.specs.Prelude.{◌≡◌, ◌↔◌, ℕ, Bool, true, false, List, IsTrue, map};
+ghost use Rattle.std.specs.Prelude.{◌≡◌, ◌≤◌, ◌+◌, ◌*◌, ◌↔◌, ℕ, Bool, true, false, List, length, IsTrue, map};
 ghost use Rattle.std.specs.Str.{IsUtf8};
 ghost use Rattle.anstyle_parse.specs.Stream.Call.{Call};
 ghost use Rattle.anstyle_parse.specs.Stream.Calls.{AreCalls};
+ghost use Rattle.anstyle_parse.specs.Machine.AsRead.{as_read_whole};
 ghost use Rattle.ansi_strip.specs.Strip.{stripped};
-ghost use Rattle.ansi_html.specs.Html.{no_element, html};
+ghost use Rattle.ansi_html.specs.Html.{no_element, html, html_of_a_byte, html_of_an_end};
 ghost use Rattle.ansi_html.specs.Lines.{lined_html};
 ghost use Rattle.ansi_html.specs.Blocks.{blocked_html, AreBlocksOf, AreBlocksOfFragments};
 ghost use Rattle.ansi_html.specs.Reader.{byte_of, seen, read, shown_from};
 
 use crate::scheme::{Scheme, Styling};
+use anstyle_parse::laws::log_bounds;
 
 /// `==` of schemes and of stylings is equality.
 pub fn equality()
@@ -47,3 +49,13 @@ pub fn blocks()
     ensures utf8 { (numbered : Bool) (styling : Styling) (bytes : List ℕ) (calls : List Call) → AreCalls bytes calls
         → IsUtf8 (blocked_html numbered styling calls) }
 {}
+
+/// What `ansi2html` and the library write of a log is the HTML of what is read of it, to its end
+/// ([`Parser::advance_log`](anstyle_parse::Parser::advance_log), `end_log`). It has at most 74 bytes for each byte of the
+/// log, or 35 by classes, and 11 more.
+pub fn log_length()
+    ensures { (styling : Styling) (log : List ℕ) (calls : List Call) → AreCalls (as_read_whole log) calls
+        → length (html styling calls) ≤ html_of_a_byte styling * length log + html_of_an_end }
+{
+    log_bounds();
+}

@@ -51,8 +51,8 @@ pub fn blocks()
 {}
 
 /// What `ansi2html` and the library write of a log is the HTML of what is read of it, to its end
-/// ([`Parser::advance_log`](anstyle_parse::Parser::advance_log), `end_log`). It has at most 74 bytes for each byte of the
-/// log, or 35 by classes, and 11 more.
+/// ([`Parser::advance_log`](anstyle_parse::Parser::advance_log), `end_log`). It has at most 74 bytes for each byte of
+/// the log, or 35 by classes, and 11 more.
 pub fn log_length()
     ensures { (styling : Styling) (log : List ℕ) (calls : List Call) → AreCalls (as_read_whole log) calls
         → length (html styling calls) ≤ html_of_a_byte styling * length log + html_of_an_end }

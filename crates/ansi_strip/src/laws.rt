@@ -146,9 +146,9 @@ pub fn inert_cut_before_escape()
 }
 
 /// What `ansi2text` and the library write of a log: the inert text of what is read of it, to its end
-/// ([`Parser::advance_log`](anstyle_parse::Parser::advance_log), `end_log`). It is at most three times as long as the log.
-/// A log may be cut before any ESC byte, and its parts stripped apart, each but the last with that ESC after it. What was
-/// stripped, stripped again, is the same, and so is any inert text: also at its end nothing is added.
+/// ([`Parser::advance_log`](anstyle_parse::Parser::advance_log), `end_log`). It is at most three times as long as the
+/// log. A log may be cut before any ESC byte, and its parts stripped apart, each but the last with that ESC after it.
+/// What was stripped, stripped again, is the same, and so is any inert text: also at its end nothing is added.
 pub fn logs()
     ensures length { (log : List ℕ) (calls : List Call) → AreCalls (as_read_whole log) calls
         → length (inert_text calls) ≤ 3 * length log }

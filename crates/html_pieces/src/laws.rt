@@ -20,8 +20,8 @@ pub fn states()
 {}
 
 /// The HTML of pieces, one after another, and then what ends it, is the HTML of what is read of the whole
-/// stream, as of a log, however it is cut. It has at most 74 bytes for each byte of the stream, or 35 by classes, and 11
-/// more.
+/// stream, as of a log, however it is cut. It has at most 74 bytes for each byte of the stream, or 35 by classes, and
+/// 11 more.
 pub fn html_joined()
     ensures pieces { (styling : Styling) (before bytes more html rest : List ℕ) → IsHtmlOf styling before bytes html
         → IsHtmlOf styling (before ++ bytes) more rest

@@ -12,8 +12,8 @@ use crate::lines::LineState;
 use ansi_strip::laws::{line_feeds, logs};
 
 /// The texts of pieces, one after another, are the text of the whole; and the text of all bytes
-/// of a stream is the inert text of the calls of what is read of them, also with what its end leads to. It is at most three
-/// times as long as the stream.
+/// of a stream is the inert text of the calls of what is read of them, also with what its end leads to. It is at most
+/// three times as long as the stream.
 pub fn texts_joined()
     ensures pieces { (before bytes more text rest : List ℕ) → IsTextOf before bytes text
         → IsTextOf (before ++ bytes) more rest

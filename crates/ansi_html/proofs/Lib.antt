@@ -23,6 +23,7 @@ pub mod GrammarLemmas
 pub mod TextLemmas
 pub mod LengthLemmas
 pub mod BoundLemmas
+pub mod LogBound
 pub mod LinkLemmas
 pub mod SoundLemmas
 pub mod SelectedLemmas

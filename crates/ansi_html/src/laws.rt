@@ -3,13 +3,15 @@ ghost use Rattle.std.specs.Prelude.{◌≡◌, ◌↔◌, ◌≤◌, ◌+◌, �
 ghost use Rattle.std.specs.Str.{IsUtf8};
 ghost use Rattle.anstyle_parse.specs.Stream.Call.{Call};
 ghost use Rattle.anstyle_parse.specs.Stream.Calls.{AreCalls};
+ghost use Rattle.anstyle_parse.specs.Machine.AsRead.{as_read_whole};
 ghost use Rattle.ansi_strip.specs.Strip.{stripped};
-ghost use Rattle.ansi_html.specs.Html.{no_element, html, html_of_a_byte};
+ghost use Rattle.ansi_html.specs.Html.{no_element, html, html_of_a_byte, html_of_an_end};
 ghost use Rattle.ansi_html.specs.Lines.{lined_html, HasLinksUpTo, lined_html_of_a_byte};
 ghost use Rattle.ansi_html.specs.Blocks.{blocked_html, AreBlocksOf, AreBlocks, block_of_a_byte, block_tags};
 ghost use Rattle.ansi_html.specs.Reader.{byte_of, seen, read, shown_from};
 
 use crate::scheme::{Scheme, Styling};
+use anstyle_parse::laws::log_bounds;
 
 /// `==` of schemes and of stylings is equality.
 pub fn equality()
@@ -59,3 +61,13 @@ pub fn blocks()
         → length (blocked_html true styling calls)
         ≤ (lined_html_of_a_byte styling + limit + block_tags) * length bytes + 25 }
 {}
+
+/// What `ansi2html` and the library write of a log is the HTML of what is read of it, to its end
+/// ([`Parser::advance_log`](anstyle_parse::Parser::advance_log), `end_log`). It has at most 74 bytes for each byte of
+/// the log, or 35 by classes, and 11 more.
+pub fn log_length()
+    ensures { (styling : Styling) (log : List ℕ) (calls : List Call) → AreCalls (as_read_whole log) calls
+        → length (html styling calls) ≤ html_of_a_byte styling * length log + html_of_an_end }
+{
+    log_bounds();
+}

@@ -1,5 +1,5 @@
 //! A terminal's display in memory that is taken once.
-ghost use Rattle.std.specs.Prelude.{◌≡◌, ◌+◌, ◌*◌, ◌<◌, ◌≤◌, length, IfOk};
+ghost use Rattle.std.specs.Prelude.{◌≡◌, ◌+◌, ◌*◌, ◌<◌, ◌≤◌, length, IfOk, IfErr};
 
 mod edits;
 mod following;
@@ -224,6 +224,18 @@ impl Display {
         if let Some(history) = &mut self.history {
             history.clear();
         }
+    }
+
+    /// It keeps the last `most` of the rows that leave it from now on, and those no longer that it kept. `Err` means
+    /// that memory is wanting; then it is as it was.
+    pub(crate) fn keep(&mut self, alloc: Global, most: usize) -> Result<(), AllocError>
+        ensures kept { IfOk result (λ _.
+            self.new ≡ record self.old { history = Some (nothing_kept most self.old.width) }) }
+        ensures stays { IfErr result (λ _. self.new ≡ self.old) }
+    {
+        let columns = self.columns();
+        self.history = Some(History::new(alloc, most, columns)?);
+        Ok(())
     }
 
     /// How many columns it has.

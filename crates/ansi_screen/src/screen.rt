@@ -1,5 +1,5 @@
 //! A screen as a performer.
-ghost use Rattle.std.specs.Prelude.{◌≡◌, ◌<◌, ◌≤◌, ◌⊎◌, ℕ, None, [], false, length, take, IfOk};
+ghost use Rattle.std.specs.Prelude.{◌≡◌, ◌<◌, ◌≤◌, ◌⊎◌, ℕ, None, [], false, length, take, IfOk, IfErr};
 ghost use Rattle.ansi_screen.specs.After.{repeatable, is_repeat};
 
 use crate::cell::Cell;
@@ -134,6 +134,17 @@ impl Screen {
         ensures { self.new ≡ with_room_alone self.old }
     {
         self.display.clear_history();
+    }
+
+    /// It keeps the last `most` of the rows that leave it from now on, and those no longer that it kept. `Err` means
+    /// that memory is wanting; then it is as it was.
+    pub(crate) fn keep(&mut self, alloc: Global, most: usize) -> Result<(), AllocError>
+        ensures kept { IfOk result (λ _. self.new ≡ record self.old {
+          display = record self.old.display { history = Some (nothing_kept most self.old.display.width) };
+        }) }
+        ensures stays { IfErr result (λ _. self.new ≡ self.old) }
+    {
+        self.display.keep(alloc, most)
     }
 
     /// How many columns it has.

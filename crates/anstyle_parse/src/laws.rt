@@ -177,7 +177,7 @@ pub fn read_logs()
         → as_read_whole (before ++ escape_byte ∷ bytes) ≡ as_read before ++ as_read_whole (escape_byte ∷ bytes) }
 {}
 
-/// A log has one division into items, and no second one. What is read of it is what is read of these, also at its end.
+/// A log has one division into items, and no second one; and what is read of it is what is read of these, also at its end.
 pub fn items_of_logs()
     ensures some { (log : List ℕ) → (items : List Item) × IsLogDivision items log }
     ensures only { (log : List ℕ) (items others : List Item) → IsLogDivision items log → IsLogDivision others log
@@ -187,8 +187,8 @@ pub fn items_of_logs()
         → as_read_whole log ≡ read_items_whole items }
 {}
 
-/// Bounds of logs: what is read of a log, also with its end, makes at most as many calls as the log has bytes, and
-/// leads to at most three bytes of text for each. As many bytes as the log has are enough for its calls, but for U+FFFD.
+/// Bounds of logs: what is read of a log, also with its end, makes at most as many calls as the log has bytes, and leads
+/// to at most three bytes of text for each. As many bytes as the log has are enough for its calls, but for U+FFFD.
 pub fn log_bounds()
     ensures calls { (bytes : List ℕ) (calls : List Call) → AreCalls (as_read bytes) calls
         → length calls ≤ length bytes }

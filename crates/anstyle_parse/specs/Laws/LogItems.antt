@@ -1,8 +1,8 @@
 -- What is read of a log, by its items: as_read on whole lists, with no state and no machine.
 --
--- A log is divided into items as any bytes are, but that BEL ends a string APC, PM or SOS, as ST does. What is read of
--- it is the text of its items, but for two things: a byte A0..C1 or F5..FF that is an item by itself, and so stands in
--- no character and in no sequence, is U+FFFD; and of the BEL that ends such a string ST is read.
+-- A log is divided into items as any bytes are, but that BEL ends a string APC, PM or SOS, as ST does. What is read of it
+-- is the text of its items, but for two things: a byte A0..C1 or F5..FF that is an item by itself, and so stands in no
+-- character and in no sequence, is U+FFFD; and of the BEL that ends such a string ST is read.
 use Rattle.std.specs.Prelude.{◌≡◌, ℕ, Bool, ◌||◌, not, ◌==◌, List, [], ◌∷◌, ◌++◌, IsTrue, ⊤, if◌then◌else◌}
 use Rattle.std.specs.List.{AllByRecursion, flat_map}
 use Rattle.anstyle_parse.specs.Stream.Bytes.{is_cancel, bell, string_terminator}

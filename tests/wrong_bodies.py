@@ -34,12 +34,16 @@ def edited(crate, path):
 
 
 def notes_of(path, text):
-    """Where a file of ansi_screen notes that something has changed: each call, and the function that it stands in."""
-    calls = re.finditer(r"\bfn (\w+)|self\.damage\.note\w*\([^;]*;", re.sub(r"(?s)/\*.*?\*/|//[^\n]*", "", text))
+    """Where a file of ansi_screen notes that something has changed, and does not forget it again: each call, and the function that it
+    stands in."""
+    calls = re.finditer(r"\bfn (\w+)|self\.damage\.(?:note\w*|forget)\([^;]*;", re.sub(r"(?s)/\*.*?\*/|//[^\n]*", "", text))
     found, function = set(), None
     for it in calls:
         function = it[1] or function
-        found |= {(path, function, it[0])} if not it[1] else set()
+        if "forget" in it[0]:
+            found = {other for other in found if other[1] != function}
+        elif not it[1]:
+            found.add((path, function, it[0]))
     return found
 
 

@@ -149,8 +149,14 @@ bindings/python/programs/%: $(BUILT)
 	mkdir -p $(@D)
 	$(INSTALL) crates/$*/out/$* $@.$$$$ && mv $@.$$$$ $@
 
+# (what is wanting is said before anything is built)
+wheel:
+	@$(HAS_KIT)
+	@PYTHON='$(PYTHON)' CC='$(CC)' packaging/wanting wheel
+	$(MAKE) made-wheel
+
 # (what an earlier wheel was made of would go into this one too)
-wheel: library $(OF_WHEEL)
+made-wheel: library $(OF_WHEEL)
 	rm -rf bindings/python/build
 	rt version > $(PACKAGE)/KIT
 	$(PYTHON) -m pip wheel --no-deps $(WHEEL_BY) --config-settings=--build-option=--plat-name=$(WHEEL_FOR) \
@@ -159,7 +165,7 @@ wheel: library $(OF_WHEEL)
 # (a script of its own, which builds by this Makefile, installs into a folder and packs that)
 dist:
 	@$(HAS_KIT)
-	VERSION=$(VERSION) packaging/dist
+	VERSION=$(VERSION) PYTHON='$(PYTHON)' CC='$(CC)' packaging/dist
 
 # (what is not proved gets no further than a copy)
 test:
@@ -235,4 +241,4 @@ uninstall:
 	rm -rf $(MODULES)/__pycache__
 	if [ -d $(MODULES) ]; then rmdir --ignore-fail-on-non-empty $(MODULES); fi
 
-.PHONY: all programs library wheel dist test check mutants install install-native uninstall
+.PHONY: all programs library wheel made-wheel dist test check mutants install install-native uninstall

@@ -17,6 +17,7 @@ import tempfile
 import time
 
 import needs
+import open_strings
 from expected_pages import in_blocks
 
 NOBODY = 65534
@@ -120,6 +121,7 @@ def file_cases(name, path, words, alone, run, differs):
         if rows.takes_many:
             yield from cut_off_cases(rows)
             yield from piece_cases(rows)
+        yield from beginning_cases(rows)
         yield from name_cases(rows)
         yield from growing_cases(rows)
         yield from written_cases(rows)
@@ -290,6 +292,28 @@ def moved_by(process, count):
         if int(found["rchar"]) >= count and found == before:
             break
     return [int(found[moved]) // max(1, int(found[calls])) for moved, calls in (("rchar", "syscr"), ("wchar", "syscw"))]
+
+
+def beginning_cases(rows):
+    """Files that begin as UTF-16 or as an asciicast: a word is said, once, and they are read all the same."""
+    for number, front in enumerate([*(it for marks in open_strings.BEGINNINGS for it in marks), b"\xff", b"\xfe\xfe", b'{"version": 4,', b' {"version": 2,', b'{"version": 2']):
+        part = front + b' "width": 80}\r\n[0.1, "o", "text"]\r\n'
+        part = part if front[:1] == b"{" else front + "text\n".encode("utf-16-le")
+        rows.put("begun", part)
+        # (what is written of it comes first in another file, whose first line is empty)
+        rows.put("further", b"\x1b[m" + part)
+        wanted = rows.ran("further").out
+        said = open_strings.begins(rows.name, "begun", part)
+        yield "the beginning %r" % front, ("nothing is known of it" if number < 6 and not said else None) or rows.differs(rows.ran("begun"), err=said, out=wanted)
+        said = open_strings.begins(rows.name, "standard input", part)
+        with subprocess.Popen([rows.path, *rows.words], stdin=subprocess.PIPE, stdout=subprocess.PIPE, stderr=subprocess.PIPE, bufsize=0) as program:
+            for byte in part:
+                program.stdin.write(bytes([byte]))
+            out, err = program.communicate()
+        found = (program.returncode, err) != (0, said)
+        yield "the beginning %r, in pieces" % front, found and "status %s, %r and not %r" % (program.returncode, err, said)
+    for at in ("begun", "further"):
+        os.remove(rows.at(at))
 
 
 def piece_cases(rows):

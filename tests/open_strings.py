@@ -1,5 +1,6 @@
-"""Strings that a stream ends inside of, and what programs say of them."""
+"""Strings that a stream ends inside of, what it begins as, and what programs say of them."""
 
+import itertools
 import re
 
 # A string that is open at the end: OSC up to BEL; SOS, PM and APC up to BEL or 9C, and DCS after its header up to 9C; all up to
@@ -28,8 +29,25 @@ def begin_of(blocks):
     return begin if begin is not None and OPEN_STRING.match(front + ends) else None
 
 
+# What a stream begins with that is no text of a terminal in UTF-8 (Unicode, 23.8; asciicast v2 and v3), and what is said of it.
+BEGINNINGS = {
+    (b"\xff\xfe", b"\xfe\xff"): "begins as UTF-16 does: iconv -f UTF-16 -t UTF-8 makes UTF-8 of it, which is read",
+    tuple(b'{"version":%s%d,' % (blank, number) for blank in (b"", b" ") for number in (2, 3)): (
+        "begins as a recording by asciinema does: asciinema cat writes what its terminal got"
+    ),
+}
+
+
+def begins(program, name, front):
+    """What a program says of an input of this name that begins so."""
+    said = [words for marks, words in BEGINNINGS.items() if front.startswith(marks)]
+    return "".join("%s: %s: %s\n" % (program, name, it) for it in said).encode()
+
+
 def said(program, blocks):
     """What a program says of standard input that comes in these blocks."""
-    begin = begin_of(blocks)
+    blocks = iter(blocks)
+    front = [next(blocks, b"")]
+    begin = begin_of(itertools.chain(front, blocks))
     words = "%s: standard input: ends inside a string that begins at byte %s\n" % (program, begin)
-    return b"" if begin is None else words.encode()
+    return begins(program, "standard input", front[0]) + (b"" if begin is None else words.encode())

@@ -68,7 +68,7 @@ inside-shown true call it other =
     ap (λ (feed : Bool). (if feed then lined (ended (standing_after call it.at)) (text_number it) false
     else lined (standing_after call it.at) (after_text it.number (text_number it) (stripped_call call)) (after_text it.is_open true (stripped_call call))).at.shown) other
 
-inside-open : (numbered : Bool) (call : Call) (it : Lined) → is_executed 0x0A call ≡ false → stripped_call call ≡ []
+pub inside-open : (numbered : Bool) (call : Call) (it : Lined) → is_executed 0x0A call ≡ false → stripped_call call ≡ []
     → (inside_after numbered call it).is_open ≡ it.is_open
 inside-open false call it other none = refl
 inside-open true call it other none =
@@ -76,7 +76,7 @@ inside-open true call it other none =
     else lined (standing_after call it.at) (after_text it.number (text_number it) bytes) (after_text it.is_open true bytes)).is_open) other none
 
 -- Calls inside of blocks are closed as lines are.
-inside-line : (numbered : Bool) (styling : Styling) (call : Call) (it : Lined) → (numbered ≡ true → IsClosed it)
+pub inside-line : (numbered : Bool) (styling : Styling) (call : Call) (it : Lined) → (numbered ≡ true → IsClosed it)
     → numbered ≡ true → IsClosed (inside_after numbered call it)
 inside-line false styling call it closed is = absurd (cc is)
 inside-line true styling call it closed is = closed-after styling call it (closed refl)
@@ -100,7 +100,7 @@ pub one-less : (left : ℕ) → left ≢ 0 → (left == 1) ≡ false → left - 
 one-less left some other = omega (arith, some, not_one left other)
 
 -- What is seen inside of blocks is the text.
-seen-inside_call : (numbered : Bool) (styling : Styling) (outer : List Attributes) → in_force outer ≡ no_attributes
+pub seen-inside_call : (numbered : Bool) (styling : Styling) (outer : List Attributes) → in_force outer ≡ no_attributes
     → (it : Lined) (call : Call) (rest : List ℕ) → (numbered ≡ true → IsClosed it)
     → seen_from (in_text (open_in (around_inside numbered outer it.is_open) styling it.at.shown)) (inside_call numbered styling it call ++ rest)
     ≡ seen_text styling it.at (is_executed 0x0A call) (stripped_call call)
@@ -109,7 +109,7 @@ seen-inside_call false styling outer nothing it call rest closed =
     seen-text styling outer nothing it.at (is_executed 0x0A call) (stripped_call call) rest
 seen-inside_call true styling outer nothing it call rest closed = seen-lined_call styling outer nothing it call rest (closed refl)
 
-seen-inside_end : (numbered : Bool) (styling : Styling) (outer : List Attributes) (it : Lined) (rest : List ℕ)
+pub seen-inside_end : (numbered : Bool) (styling : Styling) (outer : List Attributes) (it : Lined) (rest : List ℕ)
     → seen_from (in_text (open_in (around_inside numbered outer it.is_open) styling it.at.shown)) (inside_end numbered it ++ rest)
     ≡ seen_from (in_text outer) rest
 seen-inside_end false styling outer it rest = seen-element_end outer rest styling it.at.shown
@@ -133,7 +133,7 @@ module _ (numbered : Bool) (styling : Styling) where
   abbrev left_of : Blocked → List ℕ → ℕ
   left_of it bytes = after_text it.left (left_with_text it) bytes
 
-  seen-closed : (outer : List Attributes) (inside : Lined) (bytes : List ℕ) → inside.at.shown ≡ no_element → inside.is_open ≡ false
+  pub seen-closed : (outer : List Attributes) (inside : Lined) (bytes : List ℕ) → inside.at.shown ≡ no_element → inside.is_open ≡ false
       → seen_from (in_text (open_in (around_inside numbered outer inside.is_open) styling inside.at.shown)) bytes ≡ seen_from (in_text outer) bytes
   seen-closed outer inside bytes shown closed =
       ap₂ (λ (is : Bool) (it : Element). seen_from (in_text (open_in (around_inside numbered outer is) styling it)) bytes) closed shown
@@ -271,11 +271,11 @@ module _ (numbered : Bool) (styling : Styling) where
       (seen-block_closing call it rest ∙ seen-blocked after calls (outside-after call it outside) ∙ seen_calls-blocked call it calls)
 
   -- None of it is 0D.
-  HasNoReturn-inside : (is : Bool) (it : Lined) (call : Call) → HasNoReturn (inside_call is styling it call)
+  pub HasNoReturn-inside : (is : Bool) (it : Lined) (call : Call) → HasNoReturn (inside_call is styling it call)
   HasNoReturn-inside false it call = HasNoReturn-text styling it.at (is_executed 0x0A call) (stripped_call call)
   HasNoReturn-inside true it call = HasNoReturn-lined_call styling it call
 
-  HasNoReturn-inside_end : (is : Bool) (it : Lined) → HasNoReturn (inside_end is it)
+  pub HasNoReturn-inside_end : (is : Bool) (it : Lined) → HasNoReturn (inside_end is it)
   HasNoReturn-inside_end false it = HasNoReturn-end it.at.shown
   HasNoReturn-inside_end true it = HasNoReturn-lined_end styling it
 

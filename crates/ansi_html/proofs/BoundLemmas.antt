@@ -34,18 +34,18 @@ use Rattle.ansi_html.proofs.LengthLemmas.{AtMost, AtMost-end, AtMost-span_end, A
 use Rattle.ansi_html.proofs.WholeLemmas.{says_link}
 
 -- the units of a link, of a call, and of calls
-link_units : List ℕ → ℕ
+unfoldable pub link_units : List ℕ → ℕ
 link_units [] = 3
 link_units (b ∷ link) = 5 + length (b ∷ link)
 
-pub units : Call → ℕ
+unfoldable pub units : Call → ℕ
 units (print c) = 1
 units (execute b) = 1
 units (osc_dispatch parts bell) = if is_link_command parts then link_units (link_of parts) else 0
 units (csi_dispatch gs is ig f) = 3
 units call = 0
 
-pub all_units : List Call → ℕ
+unfoldable pub all_units : List Call → ℕ
 all_units [] = 0
 all_units (call ∷ calls) = units call + all_units calls
 
@@ -184,7 +184,7 @@ pub few-units : (bytes : List ℕ) (calls : List Call) → AreCalls bytes calls 
 few-units bytes calls are = omega (arith, ap all_units are.2, ap length are.1.whole, few-items are.0 are.1.each)
 
 -- products
-times-add : (k m n : ℕ) → k * (m + n) ≡ k * m + k * n
+pub times-add : (k m n : ℕ) → k * (m + n) ≡ k * m + k * n
 times-add k m n = grind arith
 
 pub times-less : (k m n : ℕ) → m ≤ n → k * m ≤ k * n
@@ -197,7 +197,7 @@ six-times k n much = grind (arith, much)
 module _ (styling : Styling) (rate span : ℕ) (much : 30 ≤ rate) (four : 4 * rate ≡ span + 21)
     (spans : (style : Style) → length (span_begin styling style) ≤ span) where
   -- what is still to be written by a change that is selected, but for what its text pays
-  pub pending_by : (linked same : Bool) → (link : ℕ) → ℕ
+  unfoldable pub pending_by : (linked same : Bool) → (link : ℕ) → ℕ
   pending_by linked same link = if linked then (if same then 0 else 3 * rate) else 3 * rate + link
 
   abbrev pub pending : Standing → ℕ
@@ -226,7 +226,7 @@ module _ (styling : Styling) (rate span : ℕ) (much : 30 ≤ rate) (four : 4 * 
       by_case false true = omega (arith, four, changed)
       by_case false false = omega (arith, four, changed)
 
-  pending-same : (it : Element) (returned : Bool) → pending (in_element it returned) ≡ 0
+  pub pending-same : (it : Element) (returned : Bool) → pending (in_element it returned) ≡ 0
   unfolding pending_by
   pending-same it returned = ap₂ (λ linked same. pending_by linked same (length (link_begin styling it.link))) (bytes_eq-refl it.link) (are_equal-refl it.style)
 
@@ -239,7 +239,7 @@ module _ (styling : Styling) (rate span : ℕ) (much : 30 ≤ rate) (four : 4 * 
       omega (arith, few, few-change at, length-append (changed ++ broken) text, length-append changed broken, AtMost-line_break at.returned is_line_feed)
 
   -- What a call writes, and what is then to be written.
-  Few : Standing → Call → Type 0
+  unfoldable pub Few : Standing → Call → Type 0
   Few at call = length (call_html styling at call) + pending (standing_after call at) ≤ pending at + rate * units call
 
   few-print : (at : Standing) (c : ℕ) → Few at (print c)
@@ -309,7 +309,7 @@ module _ (styling : Styling) (rate span : ℕ) (much : 30 ≤ rate) (four : 4 * 
       by_case true = omega (arith, few-link at (link_of parts))
       by_case false = omega arith
 
-  few-call : (at : Standing) (call : Call) → Few at call
+  pub few-call : (at : Standing) (call : Call) → Few at call
   unfolding Few units text_html
   few-call at (print c) = few-print at c
   few-call at (execute b) = few-execute at b

@@ -23,6 +23,7 @@ pub mod GrammarLemmas
 pub mod TextLemmas
 pub mod LengthLemmas
 pub mod BoundLemmas
+pub mod LogBound
 pub mod LinkLemmas
 pub mod SoundLemmas
 pub mod SelectedLemmas
@@ -40,4 +41,7 @@ pub mod InsideLemmas
 pub mod BlockLemmas
 pub mod BlockerLemmas
 pub mod PartLemmas
+pub mod WholeBlockLemmas
+pub mod LineBoundLemmas
+pub mod BlockBoundLemmas
 pub mod UnderlineLemmas

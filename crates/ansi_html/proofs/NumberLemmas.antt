@@ -31,7 +31,7 @@ HasNoFeed-executed : (b : ℕ) (layout : Bool) → eqb b 0x0A ≡ false → HasN
 HasNoFeed-executed b true other = and_from (is_no_feed b) true (ap not other) refl
 HasNoFeed-executed b false other = refl
 
-HasNoFeed-stripped : (call : Call) → IsShowable call → is_executed 0x0A call ≡ false → HasNoLineFeed (stripped_call call)
+pub HasNoFeed-stripped : (call : Call) → IsShowable call → is_executed 0x0A call ≡ false → HasNoLineFeed (stripped_call call)
 HasNoFeed-stripped (print c) is other = HasNoFeed-printed (encode_utf8 c) (ArePrinted-encode c is)
 HasNoFeed-stripped (execute b) is other = HasNoFeed-executed b (is_layout b) other
 HasNoFeed-stripped (hook gs is ig f) h other = refl
@@ -68,7 +68,7 @@ abbrev SomeLine : Styling → (number : ℕ) → Element → List ℕ → Type 0
 SomeLine styling number shown all = (it : InLine styling number shown all) × (it.text ++ it.feed ≢ [])
 
 module _ (styling : Styling) where
-  bytes-seen_text : (at : Standing) (is_line_feed : Bool) (bytes : List ℕ) → map byte_of (flat_map read_of (seen_text styling at is_line_feed bytes)) ≡ bytes
+  pub bytes-seen_text : (at : Standing) (is_line_feed : Bool) (bytes : List ℕ) → map byte_of (flat_map read_of (seen_text styling at is_line_feed bytes)) ≡ bytes
   bytes-seen_text at is_line_feed bytes =
       ap (map byte_of) (read-seen_text styling at is_line_feed bytes) ∙ bytes-under (attributes_of styling at.selected) bytes
 
@@ -170,7 +170,7 @@ module _ (styling : Styling) where
           (last number it.inside it.text fragment it.no_feed (λ none. some (same ∙ none)) (reads ∙ same))
 
   -- lines, or the rest of one that is open
-  abbrev Follow : (is_open : Bool) (number : ℕ) (shown : Element) (all : List ℕ) → Type 0
+  abbrev pub Follow : (is_open : Bool) (number : ℕ) (shown : Element) (all : List ℕ) → Type 0
   Follow true number shown all = InLine styling number shown all
   Follow false number shown all = AreLines styling number all
 
@@ -198,7 +198,7 @@ module _ (styling : Styling) where
       (InLine-feed (text_number it) it.at rest sound are)
 
   -- A call writes its text, and what follows it follows.
-  Follow-call : (call : Call) (it : Lined) (rest : List ℕ) → IsClosed it → AreSound it.at → IsShowable call
+  pub Follow-call : (call : Call) (it : Lined) (rest : List ℕ) → IsClosed it → AreSound it.at → IsShowable call
       → Follow (lined_after call it).is_open (lined_after call it).number (lined_after call it).at.shown rest
       → Follow it.is_open it.number it.at.shown
       (line_opening it (stripped_call call) ++ (call_html styling it.at call ++ (line_closing it (is_executed 0x0A call) ++ rest)))
@@ -231,7 +231,7 @@ module _ (styling : Styling) where
       by_case false other follow = others (stripped_call call) (AreTextual-stripped call is) (HasNoFeed-stripped call is other) follow
 
   -- At the end of a stream nothing follows but the ends of what is open.
-  Follow-end : (it : Lined) → IsClosed it → Follow it.is_open it.number it.at.shown (lined_end it)
+  pub Follow-end : (it : Lined) → IsClosed it → Follow it.is_open it.number it.at.shown (lined_end it)
   Follow-end it closed = by_case it.is_open closed
     where
       by_case : (is_open : Bool) → (is_open ≡ false → it.at.shown ≡ no_element)

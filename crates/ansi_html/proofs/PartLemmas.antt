@@ -1,28 +1,23 @@
--- Blocks are parts of HTML, each in an element: of lines those of the HTML in lines, and of text fragments.
+-- Blocks of numbered lines are the HTML in lines, in parts.
 use Rattle.std.proofs.Common.{◌≡◌, ◌≢◌, ℕ, Bool, true, false, List, [], ◌∷◌, ◌++◌, refl, sym, ap, ap₂, ◌∙◌, subst, append_assoc, append-nil}
 use Rattle.std.specs.Prelude.{◌&&◌, ◌==◌, ◌-◌, if◌then◌else◌}
-use Rattle.std.specs.List.{AllByRecursion, flat_map}
+use Rattle.std.specs.List.{flat_map}
 use Rattle.std.proofs.lemmas.Bool.{ne_eqb}
 use Rattle.anstyle_parse.specs.Stream.Call.{Call}
 use Rattle.ansi_strip.specs.Strip.{stripped_call}
-use Rattle.ansi_strip.proofs.Showable.{IsShowable, AreShowable}
 use Rattle.ansi_html.specs.declared.scheme.Styling.{Styling}
-use Rattle.ansi_html.specs.Html.{Element, no_element, element_end, Standing, after_text, text_html, is_executed, call_html, standing_after}
+use Rattle.ansi_html.specs.Html.{Element, no_element, element_end, after_text, text_html, is_executed, standing_after}
 use Rattle.ansi_html.specs.Lines.{Lined, lined, ended, text_number, line_opening, line_closing, line_end, lined_call, lined_after, lined_from, lined_at_end, lined_end, lined_html}
-use Rattle.ansi_html.specs.Blocks.{block_begin, block_end, inside_after, Blocked, blocked, blocked_at_start, left_with_text, block_opening, ends_block, block_closing, block_ended, blocked_after, blocked_from, blocked_at_end, blocked_end, blocked_html, in_blocks, AreBlocksOf, AreBlocksOfFragments}
-use Rattle.ansi_html.specs.Grammar.{IsFragment}
-use Rattle.ansi_html.proofs.SoundLemmas.{AreSound, AreSound-start}
-use Rattle.ansi_html.proofs.LawfulText.{AreTextual, AreTextual-stripped}
-use Rattle.ansi_html.proofs.GrammarLemmas.{IsInElement, IsInside-text_html, IsInside-nothing, IsFragment-outside}
+use Rattle.ansi_html.specs.Blocks.{block_begin, block_end, Blocked, blocked, blocked_at_start, left_with_text, block_opening, ends_block, block_closing, block_ended, blocked_after, blocked_from, blocked_at_end, blocked_end, blocked_html, in_blocks, AreBlocksOf}
 use Rattle.ansi_html.proofs.LinerLemmas.{element_end-none}
 use Rattle.ansi_html.proofs.LineLemmas.{feed-text}
-use Rattle.ansi_html.proofs.BlockLemmas.{IsOutside, IsOutside-start, left-some, one-less, outside-after, AreSound-blocked}
+use Rattle.ansi_html.proofs.BlockLemmas.{IsOutside, IsOutside-start, left-some, one-less, outside-after}
 
 abbrev pub joined : List (List ℕ) → List ℕ
 joined parts = flat_map (λ part. part) parts
 
 -- what ends a block, behind text that stands in it
-regroup : (text first others : List ℕ) → text ++ ((first ++ block_end) ++ others) ≡ ((text ++ first) ++ block_end) ++ others
+pub regroup : (text first others : List ℕ) → text ++ ((first ++ block_end) ++ others) ≡ ((text ++ first) ++ block_end) ++ others
 regroup text first others =
     ap (λ l. text ++ l) (append_assoc first block_end others)
     ∙ sym (append_assoc text first (block_end ++ others)) ∙ sym (append_assoc (text ++ first) block_end others)
@@ -66,12 +61,12 @@ Rest-last false text lines html more = record {
 }
 
 -- A call without text writes nothing.
-lined_call-none : (styling : Styling) (it : Lined) (call : Call) → is_executed 0x0A call ≡ false → stripped_call call ≡ [] → lined_call styling it call ≡ []
+pub lined_call-none : (styling : Styling) (it : Lined) (call : Call) → is_executed 0x0A call ≡ false → stripped_call call ≡ [] → lined_call styling it call ≡ []
 unfolding text_html
 lined_call-none styling it call other none =
     ap₂ (λ (bytes : List ℕ) (feed : Bool). line_opening it bytes ++ (text_html styling it.at feed bytes ++ line_closing it feed)) none other
 
-lined_after-feed : (call : Call) (it : Lined) → is_executed 0x0A call ≡ true → lined_after call it ≡ lined (ended (standing_after call it.at)) (text_number it) false
+pub lined_after-feed : (call : Call) (it : Lined) → is_executed 0x0A call ≡ true → lined_after call it ≡ lined (ended (standing_after call it.at)) (text_number it) false
 lined_after-feed call it feeds =
     ap (λ (feed : Bool). if feed then lined (ended (standing_after call it.at)) (text_number it) false
     else lined (standing_after call it.at) (after_text it.number (text_number it) (stripped_call call)) (after_text it.is_open true (stripped_call call))) feeds
@@ -172,154 +167,3 @@ module _ (styling : Styling) where
   AreBlocksOf-lines calls =
       let all = Rest-all blocked_at_start calls IsOutside-start in
       record { parts = all.parts; blocks = all.whole; joined = all.same }
-
-  -- The same of blocks of text: what is left of one that is open may follow text of the element that is shown.
-  pub record Others (none : Bool) (shown : Element) (html : List ℕ) : Type 0 where
-    pub first : List ℕ
-    pub parts : List (List ℕ)
-    pub whole : html ≡ (if none then [] else first ++ block_end) ++ in_blocks parts
-    pub stands : none ≡ false → IsInElement styling shown first
-    pub fragments : AllByRecursion (IsFragment styling) parts
-
-  outside : (none : Bool) (shown : Element) (html : List ℕ) → (none ≡ true → shown ≡ no_element) → none ≡ true → IsInElement styling shown html → IsFragment styling html
-  outside none shown html closed is within = IsFragment-outside styling html (subst (λ element. IsInElement styling element html) (closed is) within)
-
-  pub Others-text : (none : Bool) (shown next : Element) (text html : List ℕ) → (none ≡ true → shown ≡ no_element)
-      → ((first : List ℕ) → IsInElement styling next first → IsInElement styling shown (text ++ first)) → Others false next html
-      → Others none shown ((if none then block_begin else []) ++ (text ++ html))
-  Others-text true shown next text html closed follows more = record {
-    first = [];
-    parts = (text ++ more.first) ∷ more.parts;
-    whole = ap (λ l. block_begin ++ (text ++ l)) more.whole ∙ ap (λ l. block_begin ++ l) (regroup text more.first (in_blocks more.parts));
-    stands = λ is. absurd (cc is);
-    fragments = (outside true shown (text ++ more.first) closed refl (follows more.first (more.stands refl)), more.fragments);
-  }
-  Others-text false shown next text html closed follows more = record {
-    first = text ++ more.first;
-    parts = more.parts;
-    whole = ap (λ l. text ++ l) more.whole ∙ regroup text more.first (in_blocks more.parts);
-    stands = λ is. follows more.first (more.stands refl);
-    fragments = more.fragments;
-  }
-
-  pub Others-last : (none : Bool) (shown next : Element) (text html : List ℕ) → (none ≡ true → shown ≡ no_element)
-      → IsInElement styling shown text → Others true next html
-      → Others none shown ((if none then block_begin else []) ++ (text ++ (block_end ++ html)))
-  Others-last true shown next text html closed within more = record {
-    first = [];
-    parts = text ∷ more.parts;
-    whole = ap (λ l. block_begin ++ (text ++ (block_end ++ l))) more.whole ∙ ap (λ l. block_begin ++ l) (sym (append_assoc text block_end (in_blocks more.parts)));
-    stands = λ is. absurd (cc is);
-    fragments = (outside true shown text closed refl within, more.fragments);
-  }
-  Others-last false shown next text html closed within more = record {
-    first = text;
-    parts = more.parts;
-    whole = ap (λ l. text ++ (block_end ++ l)) more.whole ∙ sym (append_assoc text block_end (in_blocks more.parts));
-    stands = λ is. within;
-    fragments = more.fragments;
-  }
-
-  abbrev texts_from : Blocked → List Call → List ℕ
-  texts_from it calls = blocked_from false styling it calls ++ blocked_end false (blocked_at_end false it calls)
-
-  Others-end : (it : Blocked) → IsOutside false it → Others (it.left == 0) it.inside.at.shown (blocked_end false it)
-  Others-end it outer = by_case (it.left == 0) outer.shown
-    where
-      by_case : (none : Bool) → (none ≡ true → it.inside.at.shown ≡ no_element)
-          → Others none it.inside.at.shown (element_end it.inside.at.shown ++ (if none then [] else block_end))
-      by_case true shown = record {
-        first = [];
-        parts = [];
-        whole = append-nil (element_end it.inside.at.shown) ∙ ap element_end (shown refl) ∙ element_end-none;
-        stands = λ is. absurd (cc is);
-        fragments = tt;
-      }
-      by_case false shown = record {
-        first = element_end it.inside.at.shown;
-        parts = [];
-        whole = sym (append-nil (element_end it.inside.at.shown ++ block_end));
-        stands = λ is. IsInside-nothing styling it.inside.at.shown;
-        fragments = tt;
-      }
-
-  Others-call : (call : Call) (it : Blocked) (calls : List Call) → IsOutside false it → AreSound it.inside.at → IsShowable call
-      → Others ((blocked_after false call it).left == 0) (blocked_after false call it).inside.at.shown (texts_from (blocked_after false call it) calls)
-      → Others (it.left == 0) it.inside.at.shown
-      (after_text [] (block_opening it) (stripped_call call) ++ (call_html styling it.inside.at call
-      ++ (block_closing (inside_after false call it.inside) (ends_block it call) ++ texts_from (blocked_after false call it) calls)))
-  unfolding text_html
-  Others-call call it calls outer sound can = by_case (is_executed 0x0A call) refl (left_with_text it == 1) refl (stripped_call call) refl
-    where
-      at : Standing
-      at = it.inside.at
-
-      shown_after : List ℕ → Element
-      shown_after bytes = after_text at.shown at.selected bytes
-
-      after : List ℕ → Lined
-      after bytes = lined (record { shown = shown_after bytes; selected = (standing_after call at).selected; returned = (standing_after call at).returned }) it.inside.number it.inside.is_open
-
-      after_by : (feed full : Bool) → List ℕ → Blocked
-      after_by feed full bytes =
-          if feed && full then block_ended (after bytes)
-          else blocked (after bytes) (if feed then left_with_text it - 1 else after_text it.left (left_with_text it) bytes)
-
-      text : Bool → List ℕ → List ℕ
-      text feed bytes = text_html styling at feed bytes
-
-      goes_on : (feed : Bool) (b : ℕ) (bytes : List ℕ) → AreTextual (b ∷ bytes) → (left : ℕ) → left ≢ 0
-          → Others (left == 0) (shown_after (b ∷ bytes)) (texts_from (blocked (after (b ∷ bytes)) left) calls)
-          → Others (it.left == 0) at.shown (block_opening it ++ (text feed (b ∷ bytes) ++ texts_from (blocked (after (b ∷ bytes)) left) calls))
-      goes_on feed b bytes textual left some more =
-          let html = texts_from (blocked (after (b ∷ bytes)) left) calls in
-          Others-text (it.left == 0) at.shown at.selected (text feed (b ∷ bytes)) html outer.shown
-          (λ first is. IsInside-text_html styling at feed (b ∷ bytes) first sound textual is)
-          (subst (λ (none : Bool). Others none at.selected html) (ne_eqb left 0 some) more)
-
-      ends : (b : ℕ) (bytes : List ℕ) → AreTextual (b ∷ bytes) → Others true no_element (texts_from (block_ended (after (b ∷ bytes))) calls)
-          → Others (it.left == 0) at.shown (block_opening it ++ (text true (b ∷ bytes) ++ ((element_end at.selected ++ block_end) ++ texts_from (block_ended (after (b ∷ bytes))) calls)))
-      ends b bytes textual more =
-          let here = text true (b ∷ bytes) in
-          let close = element_end at.selected in
-          let html = texts_from (block_ended (after (b ∷ bytes))) calls in
-          subst (λ l. Others (it.left == 0) at.shown (block_opening it ++ l))
-          (sym (regroup here close html ∙ append_assoc (here ++ close) block_end html))
-          (Others-last (it.left == 0) at.shown no_element (here ++ close) html outer.shown
-          (IsInside-text_html styling at true (b ∷ bytes) close sound textual (IsInside-nothing styling at.selected)) more)
-
-      textual_of : (bytes : List ℕ) → stripped_call call ≡ bytes → AreTextual bytes
-      textual_of bytes is = subst AreTextual is (AreTextual-stripped call can)
-
-      by_case : (feed : Bool) → is_executed 0x0A call ≡ feed → (full : Bool) → (left_with_text it == 1) ≡ full → (bytes : List ℕ) → stripped_call call ≡ bytes
-          → Others ((after_by feed full bytes).left == 0) (after_by feed full bytes).inside.at.shown (texts_from (after_by feed full bytes) calls)
-          → Others (it.left == 0) at.shown
-          (after_text [] (block_opening it) bytes ++ (text feed bytes ++ (block_closing (after bytes) (feed && full) ++ texts_from (after_by feed full bytes) calls)))
-      by_case false other full f [] none more = more
-      by_case false other full f (b ∷ bytes) some more = goes_on false b bytes (textual_of (b ∷ bytes) some) (left_with_text it) (left-some it) more
-      by_case true feeds full f [] none more = absurd (cc (sym (feed-text call feeds) ∙ none))
-      by_case true feeds false f (b ∷ bytes) some more =
-          goes_on true b bytes (textual_of (b ∷ bytes) some) (left_with_text it - 1) (one-less (left_with_text it) (left-some it) f) more
-      by_case true feeds true f (b ∷ bytes) some more = ends b bytes (textual_of (b ∷ bytes) some) more
-
-  Others-all : (it : Blocked) (calls : List Call) → IsOutside false it → AreSound it.inside.at → AreShowable calls
-      → Others (it.left == 0) it.inside.at.shown (texts_from it calls)
-  Others-all it [] outer sound are = Others-end it outer
-  Others-all it (call ∷ calls) outer sound are =
-      let after = blocked_after false call it in
-      let opening = after_text [] (block_opening it) (stripped_call call) in
-      let text = call_html styling it.inside.at call in
-      let closing = block_closing (inside_after false call it.inside) (ends_block it call) in
-      let others = blocked_from false styling after calls in
-      let close = blocked_end false (blocked_at_end false after calls) in
-      subst (Others (it.left == 0) it.inside.at.shown)
-      (sym (append_assoc (opening ++ (text ++ closing)) others close ∙ append_assoc opening (text ++ closing) (others ++ close)
-      ∙ ap (λ l. opening ++ l) (append_assoc text closing (others ++ close))))
-      (Others-call call it calls outer sound are.0
-      (Others-all after calls (outside-after false styling call it outer) (AreSound-blocked false styling call it sound) are.1))
-
-  -- In each block of the text of calls that can be shown stands a fragment.
-  pub AreBlocksOfFragments-text : (calls : List Call) → AreShowable calls → AreBlocksOfFragments styling (blocked_html false styling calls)
-  AreBlocksOfFragments-text calls are =
-      let all = Others-all blocked_at_start calls IsOutside-start AreSound-start are in
-      record { parts = all.parts; blocks = all.whole; fragments = all.fragments }

@@ -1,14 +1,14 @@
 -- The HTML of a list of calls in blocks of lines: each block is one element, with as many lines as a block has, the
 -- last one with what is left. So a browser lays out what shows of a long text alone. In a block stands text, as in HTML
 -- without blocks, or numbered lines.
-use Rattle.std.specs.Prelude.{◌≡◌, ℕ, Bool, true, false, ◌&&◌, ◌==◌, ◌-◌, List, [], ◌∷◌, ◌++◌, codes, if◌then◌else◌}
+use Rattle.std.specs.Prelude.{◌≡◌, ◌≢◌, ◌<◌, ℕ, zero, suc, Bool, true, false, ◌&&◌, ◌==◌, ◌-◌, List, [], ◌∷◌, ◌++◌, codes, length, filter, if◌then◌else◌}
 use Rattle.std.specs.List.{AllByRecursion, flat_map}
 use Rattle.anstyle_parse.specs.Stream.Call.{Call}
 use Rattle.ansi_strip.specs.Strip.{stripped_call}
 use Rattle.ansi_html.specs.declared.scheme.Styling.{Styling}
 use Rattle.ansi_html.specs.Html.{element_end, after_text, is_executed, call_html, standing_after}
 use Rattle.ansi_html.specs.Grammar.{IsFragment}
-use Rattle.ansi_html.specs.Lines.{Lined, lined, lined_at_start, ended, lined_call, lined_after, lined_end}
+use Rattle.ansi_html.specs.Lines.{Lined, lined, lined_at_start, ended, lined_call, lined_after, lined_end, next_number, text_in, AreLines}
 
 -- the lines that a block has
 abbrev pub lines_a_block : ℕ
@@ -119,3 +119,53 @@ pub record AreBlocksOfFragments (styling : Styling) (html : List ℕ) : Type 0 w
   pub parts : List (List ℕ)
   pub blocks : html ≡ in_blocks parts
   pub fragments : AllByRecursion (IsFragment styling) parts
+
+-- So many lines, each with the line feed at its end: the text has as many, and ends with one.
+abbrev pub line_feeds : (text : List ℕ) → ℕ
+line_feeds text = length (filter (λ b. b == 0x0A) text)
+
+pub record AreWholeLines (count : ℕ) (text : List ℕ) : Type 0 where
+  pub before : List ℕ
+  pub ends : text ≡ before ++ (0x0A ∷ [])
+  pub counted : line_feeds text ≡ count
+
+-- So many lines at most, and some: the last of fewer need not have its line feed.
+pub data AreLinesUpTo (count : ℕ) (text : List ℕ) : Type 0 where
+  as_many : AreWholeLines count text → AreLinesUpTo count text
+  fewer : text ≢ [] → line_feeds text < count → AreLinesUpTo count text
+
+-- What stands in a block, after the line of this number: numbered lines, or text.
+abbrev pub StandsInBlock : (numbered : Bool) → Styling → (number : ℕ) → List ℕ → Type 0
+StandsInBlock false styling number inside = IsFragment styling inside
+StandsInBlock true styling number inside = AreLines styling number inside
+
+-- the number so many lines after the line of this one
+unfoldable pub number_after : (count number : ℕ) → ℕ
+number_after zero number = number
+number_after (suc count) number = number_after count (next_number number)
+
+-- the same after a block; lines of text have none
+abbrev pub number_after_block : (numbered : Bool) → (number : ℕ) → ℕ
+number_after_block false number = number
+number_after_block true number = number_after lines_a_block number
+
+-- Blocks, after the line of this number: the text of each, as it is read, is as many whole lines as a block has, and that
+-- of the last one the lines that are left.
+pub data AreBlocks (numbered : Bool) (styling : Styling) : (number : ℕ) → List ℕ → Type 0 where
+  no_block : (number : ℕ) → AreBlocks numbered styling number []
+  block : (number : ℕ) (inside rest : List ℕ) → StandsInBlock numbered styling number inside
+      → AreWholeLines lines_a_block (text_in inside)
+      → AreBlocks numbered styling (number_after_block numbered number) rest
+      → AreBlocks numbered styling number (block_begin ++ (inside ++ (block_end ++ rest)))
+  last_block : (number : ℕ) (inside : List ℕ) → StandsInBlock numbered styling number inside
+      → AreLinesUpTo lines_a_block (text_in inside)
+      → AreBlocks numbered styling number (block_begin ++ (inside ++ block_end))
+
+-- The bytes that blocks take at most for each byte of a stream. Of text, for each of 500 lines its part of the tags of a
+-- block (23 and 7), and of the end and the beginning anew of the element in it, with the longest link. Of numbered lines,
+-- in which that stands in each line, these tags alone, as if each line had them.
+abbrev pub block_of_a_byte : ℕ
+block_of_a_byte = 14
+
+abbrev pub block_tags : ℕ
+block_tags = 30

@@ -1,11 +1,13 @@
 -- The HTML of a list of calls in lines: each line of its text is one element, which has its number. What a style or a
 -- link goes on over stands in each of its lines anew.
-use Rattle.std.specs.Prelude.{◌≡◌, ◌≢◌, ℕ, suc, Bool, true, false, not, nat_lt, ◌==◌, List, [], ◌∷◌, ◌++◌, codes, map, decimal, IsTrue, if◌then◌else◌}
-use Rattle.std.specs.List.{list_all}
+use Rattle.std.specs.Prelude.{◌≡◌, ◌≢◌, ◌≤◌, ℕ, suc, length, Bool, true, false, not, nat_lt, ◌==◌, List, [], ◌∷◌, ◌++◌, codes, map, decimal, IsTrue, if◌then◌else◌}
+use Rattle.std.specs.List.{AllByRecursion, list_all}
 use Rattle.anstyle_parse.specs.Stream.Call.{Call}
 use Rattle.ansi_strip.specs.Strip.{stripped_call}
 use Rattle.ansi_html.specs.declared.scheme.Styling.{Styling}
-use Rattle.ansi_html.specs.Html.{Standing, at_start, no_element, element_end, after_text, is_executed, call_html, standing_after}
+use Rattle.ansi_html.specs.declared.scheme.Styling.TheVariants.{Inline, Classes}
+use Rattle.ansi_html.specs.Links.{link_after}
+use Rattle.ansi_html.specs.Html.{Standing, at_start, no_element, link_begin, element_end, after_text, is_executed, call_html, standing_after}
 use Rattle.ansi_html.specs.Reader.{byte_of, read}
 use Rattle.ansi_html.specs.Grammar.{IsFragment}
 
@@ -110,3 +112,15 @@ pub data AreLines (styling : Styling) : (number : ℕ) → List ℕ → Type 0 w
   last : (number : ℕ) (inside text : List ℕ) → IsFragment styling inside → HasNoLineFeed text → text ≢ []
       → text_in inside ≡ text
       → AreLines styling number (line_begin (next_number number) ++ (inside ++ line_end))
+
+-- No link that calls select begins with a tag of more bytes.
+abbrev pub HasLinksUpTo : (limit : ℕ) → Styling → List Call → Type 0
+HasLinksUpTo limit styling calls =
+    AllByRecursion (λ call. length (link_begin styling (link_after call [])) ≤ limit) calls
+
+-- The bytes of HTML in lines at most for each byte of a stream, beside the tag of a link. A line feed alone is a line:
+-- that is its tags (103, where its number has twenty digits, and 7), a span (275 and 7, or 119 and 7 by classes), the end
+-- of a link (4), and the line feed; 417 and 261 are what is proved of it.
+abbrev pub lined_html_of_a_byte : Styling → ℕ
+lined_html_of_a_byte (Inline scheme) = 417
+lined_html_of_a_byte Classes = 261

@@ -25,7 +25,7 @@ ghost use Rattle.ansi_html.specs.Css.{selects_both, colors_css};
 ghost use Rattle.ansi_html.specs.Links.{IsLink, is_link_command, link_of, SaysLink};
 ghost use Rattle.ansi_html.specs.Html.{no_element, html_text, html_ending, html, html_of_a_byte, html_of_an_end, escaped_text, value_of};
 ghost use Rattle.ansi_html.specs.Reader.{no_attributes, byte_of, href_of, under, seen, read, normalized, drawn, ends_in_return, shown_from};
-ghost use Rattle.ansi_html.specs.Lines.{lined_text, lined_ending, lined_html, AreLines};
+ghost use Rattle.ansi_html.specs.Lines.{lined_text, lined_ending, lined_html, AreLines, HasLinksUpTo, lined_html_of_a_byte};
 ghost use Rattle.ansi_html.specs.Grammar.{AreReadable, IsFragment};
 ghost use Rattle.ansi_html.specs.declared.class.Class.{Class};
 ghost use Rattle.ansi_html.specs.Classes.{class_name, classes_of};
@@ -185,6 +185,12 @@ pub fn convert_lines<R: Source, W: Sink>(
     // It is UTF-8, whatever was read.
     ensures utf8 { (bytes : List ℕ) (calls : List Call) → AreCalls bytes calls
         → IsUtf8 (lined_html styling calls) }
+
+    // It has at most 417 bytes for each byte that was read, or 261 by classes, and the longest tag of a link, which each
+    // line has anew; and 18 more.
+    ensures bound { (limit : ℕ) (bytes : List ℕ) (calls : List Call)
+        → AreCalls bytes calls → HasLinksUpTo limit styling calls
+        → length (lined_html styling calls) ≤ (lined_html_of_a_byte styling + limit) * length bytes + 18 }
 {
     let mut output = Output::new(writer);
     output.put(head);

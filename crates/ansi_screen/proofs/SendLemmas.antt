@@ -4,7 +4,7 @@ use denote.Param.Send.{IsSend, AllSend, sendable, view_send, recorded_send, stru
 use Rattle.std.proofs.Crossing.{crosses}
 use Rattle.ansi_screen.specs.contracts.display.Display as display
 use Rattle.ansi_screen.specs.contracts.display.Display.TheInside as inside
-use Rattle.ansi_screen.specs.contracts.display.Shown as shown
+use Rattle.ansi_screen.specs.contracts.damage.Shown as shown
 use Rattle.ansi_screen.specs.contracts.screen.Screen as screen
 use Rattle.ansi_screen.proofs.covered.Covered.TheSendSync as covered_send
 use Rattle.ansi_screen.proofs.damage.Damage.TheSendSync as damage_send

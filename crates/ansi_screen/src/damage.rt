@@ -3,9 +3,13 @@ ghost use Rattle.std.specs.Prelude.{◌≡◌, ◌++◌, ◌-◌, ◌+◌, ◌<�
 ghost use Rattle.ansi_screen.specs.Damage.{no_span, AreEmptyBeside};
 ghost use Rattle.ansi_screen.specs.Display.{most_columns};
 
+use crate::covered::Covered;
+use crate::grid::Grid;
+use crate::place::Place;
 use crate::size::MAX_COLUMNS;
 use std::alloc::{AllocError, Global};
 use std::marker::Model;
+use std::snapshot::Snapshot;
 
 /// The columns from `left` up to `right` were written; none, where `right` is not greater than `left`.
 #[derive(Clone, Copy)]
@@ -40,6 +44,21 @@ impl Span {
             self.right = right;
         }
     }
+}
+
+/// A picture of a display, of when its damage was forgotten. It is there for clauses alone, and takes no memory.
+/// [`Damage::forget`] makes it, and nothing else can: so whoever has a new one has noted nothing since.
+#[derive(Drop)]
+pub(crate) struct Shown {
+    cells: Snapshot<Grid>,
+    hidden: Snapshot<Covered>,
+    tabs: Snapshot<Vec<bool>>,
+    /// What is saved on the screen that shows and on the hidden one.
+    saved: Snapshot<Place>,
+    hidden_saved: Snapshot<Place>,
+    top: Snapshot<usize>,
+    bottom: Snapshot<usize>,
+    is_alternate: Snapshot<bool>,
 }
 
 /// Damage: the columns of each row that were written, and whether the frame can have changed: what is saved, margins,
@@ -95,15 +114,43 @@ impl Damage {
         })
     }
 
-    /// Forgets all damage. This takes time for each row of which something was noted, and for the rows between them.
-    pub(crate) fn forget(&mut self)
-        ensures { self.new ≡ record { spans = replicate (length self.old.spans) no_span; is_framed = false } }
+    /// Forgets all damage, and answers the picture of these from which on it is noted: cells, covered ones, stops, what
+    /// is saved on both screens, margins, and whether the alternate one shows. This takes time for each row of which
+    /// something was noted, and for the rows between them.
+    pub(crate) fn forget(
+        &mut self,
+        cells: &Grid,
+        hidden: &Covered,
+        tabs: &Vec<bool>,
+        saved: (Place, Place),
+        margins: (usize, usize),
+        is_alternate: bool,
+    ) -> Shown
+        ensures nothing { self.new ≡ record { spans = replicate (length self.old.spans) no_span; is_framed = false } }
+        ensures cells { result.cells.value ≡ cells.now }
+        ensures hidden { result.hidden.value ≡ hidden.now }
+        ensures tabs { result.tabs.value ≡ tabs.now }
+        ensures saved { result.saved.value ≡ saved.0 }
+        ensures hidden_saved { result.hidden_saved.value ≡ saved.1 }
+        ensures top { result.top.value ≡ margins.0 }
+        ensures bottom { result.bottom.value ≡ margins.1 }
+        ensures is_alternate { result.is_alternate.value ≡ is_alternate }
     {
         empty(self.spans.as_mut_slice(), self.first, self.past);
         self.first = self.spans.len();
         self.past = 0;
         self.are_all = false;
         self.is_framed = false;
+        Shown {
+            cells: Snapshot::of(cells),
+            hidden: Snapshot::of(hidden),
+            tabs: Snapshot::of(tabs),
+            saved: Snapshot::of(&saved.0),
+            hidden_saved: Snapshot::of(&saved.1),
+            top: Snapshot::of(&margins.0),
+            bottom: Snapshot::of(&margins.1),
+            is_alternate: Snapshot::of(&is_alternate),
+        }
     }
 
     /// The columns of a row from `left` up to `right` too. Mostly all of the screen is noted already, or some of the

@@ -1,5 +1,5 @@
 //! A terminal's display in memory that is taken once.
-ghost use Rattle.std.specs.Prelude.{◌≡◌, ◌+◌, ◌*◌, ◌<◌, ◌≤◌, length, IfOk};
+ghost use Rattle.std.specs.Prelude.{◌≡◌, ◌+◌, ◌*◌, ◌<◌, ◌≤◌, length, IfOk, IfErr};
 
 mod edits;
 mod following;
@@ -12,7 +12,7 @@ mod print;
 
 use crate::cell::Cell;
 use crate::covered::Covered;
-use crate::damage::Damage;
+use crate::damage::{Damage, Shown};
 use crate::grid::Grid;
 use crate::history::History;
 use crate::place::Place;
@@ -21,7 +21,6 @@ use crate::tabs::reset_stops;
 pub(crate) use performer::first_of;
 use std::alloc::{AllocError, Global};
 use std::marker::Model;
-use std::snapshot::Snapshot;
 
 /// Cells in rows, the cursor, margins, tabs and modes, and the alternate screen.
 #[derive(Drop)]
@@ -52,20 +51,6 @@ pub(crate) struct Display {
     shown: Shown,
     /// The last rows that left it, if it keeps any.
     history: Option<History>,
-}
-
-/// A picture of a display. It is there for clauses alone, and takes no memory.
-#[derive(Drop)]
-pub(crate) struct Shown {
-    cells: Snapshot<Grid>,
-    hidden: Snapshot<Covered>,
-    tabs: Snapshot<Vec<bool>>,
-    /// What is saved on the screen that shows and on the hidden one.
-    saved: Snapshot<Place>,
-    hidden_saved: Snapshot<Place>,
-    top: Snapshot<usize>,
-    bottom: Snapshot<usize>,
-    is_alternate: Snapshot<bool>,
 }
 
 impl Model for Display {
@@ -161,17 +146,11 @@ impl Display {
         let hidden = Covered::new(alloc, columns, rows as u16)?;
         let mut tabs = Vec::from_elem(alloc, false, columns)?;
         reset_stops(tabs.as_mut_slice());
-        let damage = Damage::all(alloc, rows)?;
-        let shown = Shown {
-            cells: Snapshot::of(&cells),
-            hidden: Snapshot::of(&hidden),
-            tabs: Snapshot::of(&tabs),
-            saved: Snapshot::of(&Place::home()),
-            hidden_saved: Snapshot::of(&Place::home()),
-            top: Snapshot::of(&0),
-            bottom: Snapshot::of(&rows),
-            is_alternate: Snapshot::of(&false),
-        };
+        let mut damage = Damage::all(alloc, rows)?;
+        let places = (Place::home(), Place::home());
+        let shown = damage.forget(&cells, &hidden, &tabs, places, (0, rows), false);
+        // (what a new screen shows was shown nowhere)
+        damage.note_all();
         Ok(Display {
             cells,
             cursor: Place::home(),
@@ -245,6 +224,18 @@ impl Display {
         if let Some(history) = &mut self.history {
             history.clear();
         }
+    }
+
+    /// It keeps the last `most` of the rows that leave it from now on, and those no longer that it kept. `Err` means
+    /// that memory is wanting; then it is as it was.
+    pub(crate) fn keep(&mut self, alloc: Global, most: usize) -> Result<(), AllocError>
+        ensures kept { IfOk result (λ _.
+            self.new ≡ record self.old { history = Some (nothing_kept most self.old.width) }) }
+        ensures stays { IfErr result (λ _. self.new ≡ self.old) }
+    {
+        let columns = self.columns();
+        self.history = Some(History::new(alloc, most, columns)?);
+        Ok(())
     }
 
     /// How many columns it has.

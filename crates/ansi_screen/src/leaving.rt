@@ -66,6 +66,7 @@ impl Model for Scrollable {
 
 impl Scrollable {
     ghost use Rattle.ansi_screen.specs.After.{new_state};
+    ghost use Rattle.ansi_screen.specs.Leaving.{unkept};
 
     /// A blank screen of so many columns and rows. `Err` means that memory is wanting.
     pub fn new(alloc: Global, columns: usize, rows: usize) -> Result<Scrollable, AllocError>
@@ -76,6 +77,19 @@ impl Scrollable {
         ensures { IfOk result (λ screen. screen ≡ new_state columns rows) }
     {
         let screen = Screen::with_history(alloc, columns, rows, rows)?;
+        // (for the proof: it is within its sizes)
+        let _ = screen.rows();
+        Ok(Scrollable { screen })
+    }
+
+    /// This screen, whatever it shows; of the rows that left it before it keeps none. `Err` means that memory is
+    /// wanting.
+    pub fn of(alloc: Global, screen: Screen) -> Result<Scrollable, AllocError>
+        ensures { IfOk result (λ same. same ≡ unkept screen) }
+    {
+        let mut screen = screen;
+        let rows = screen.rows();
+        screen.keep(alloc, rows)?;
         // (for the proof: it is within its sizes)
         let _ = screen.rows();
         Ok(Scrollable { screen })

@@ -1,5 +1,5 @@
 //! A screen as a performer.
-ghost use Rattle.std.specs.Prelude.{◌≡◌, ◌<◌, ◌≤◌, ◌⊎◌, ℕ, None, [], false, length, take, IfOk};
+ghost use Rattle.std.specs.Prelude.{◌≡◌, ◌<◌, ◌≤◌, ◌⊎◌, ℕ, None, [], false, length, take, IfOk, IfErr};
 ghost use Rattle.ansi_screen.specs.After.{repeatable, is_repeat};
 
 use crate::cell::Cell;
@@ -136,6 +136,17 @@ impl Screen {
         self.display.clear_history();
     }
 
+    /// It keeps the last `most` of the rows that leave it from now on, and those no longer that it kept. `Err` means
+    /// that memory is wanting; then it is as it was.
+    pub(crate) fn keep(&mut self, alloc: Global, most: usize) -> Result<(), AllocError>
+        ensures kept { IfOk result (λ _. self.new ≡ record self.old {
+          display = record self.old.display { history = Some (nothing_kept most self.old.display.width) };
+        }) }
+        ensures stays { IfErr result (λ _. self.new ≡ self.old) }
+    {
+        self.display.keep(alloc, most)
+    }
+
     /// How many columns it has.
     pub fn columns(&self) -> usize
         ensures columns { result ≡ self.now.display.width }
@@ -191,8 +202,9 @@ impl Screen {
         self.display.link()
     }
 
-    /// Forgets what can have changed: as it is now, it counts as shown. This takes time for each row that can have
-    /// changed, and for those between them.
+    /// Forgets what can have changed: as it is now, it counts as shown, and nothing is noted. This takes time for each
+    /// row that can have changed, and for those between them.
+    // (what is noted no clause sees: that it is nothing says the function that alone makes the picture, `Damage::forget`)
     pub fn forget(&mut self)
         ensures { self.new ≡ as_shown self.old }
     {
@@ -200,7 +212,8 @@ impl Screen {
     }
 
     /// The rows outside which no cell can have changed since that was last forgotten: from the first answer up to the
-    /// second. Of a new screen all can have.
+    /// second. Of a new screen all can have. (That they are no more than were written the tests of `screen_tests` hold,
+    /// and no clause; so it is with the next two.)
     pub fn changed_rows(&self) -> (usize, usize)
         ensures order { result.0 ≤ result.1 }
         ensures within { result.1 ≤ self.now.display.height }
@@ -230,7 +243,8 @@ impl Screen {
     }
 
     /// Becomes as another screen is, from which it differs in no more than can have changed of that, and in the cursor,
-    /// modes and links. Nothing else is copied, what it keeps of rows that left neither, and no memory is taken.
+    /// modes and links. Nothing else is copied, what it keeps of rows that left neither, and no memory is taken. (That
+    /// no more is copied `tests/cells` holds, by what it costs.)
     pub fn catch_up(&mut self, other: &Screen)
         requires { IsShownOf other.now.display self.old.display }
         ensures { self.new ≡ record {

@@ -9,3 +9,4 @@ pub mod LaneLemmas
 pub mod PassLemmas
 pub mod LineFeedLemmas
 pub mod LineTextLemmas
+pub mod LogLemmas

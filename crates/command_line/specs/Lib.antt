@@ -1,3 +1,5 @@
+pub mod Kinds
+pub mod Beginning
 pub mod Options
 pub mod Line
 pub mod Inputs

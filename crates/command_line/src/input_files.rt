@@ -3,6 +3,7 @@ ghost use Rattle.std.specs.Prelude.{◌≡◌, ◌≤◌, None, true, false, len
 ghost use Rattle.std.specs.List.{list_any};
 ghost use Rattle.command_line.specs.Inputs.{input_failed, name_of, names_read};
 
+use crate::beginning::Beginning;
 use crate::standard::STANDARD;
 use anstyle_parse::io::Source;
 use each_source::Stream;
@@ -24,6 +25,7 @@ pub struct Input<'a> {
     name: &'a str,
     opened: Opened,
     has_failed: bool,
+    beginning: Beginning,
 }
 
 /// Where the reading of an input stands.
@@ -73,6 +75,7 @@ impl<'a> Input<'a> {
             name,
             opened: Opened::NotYet,
             has_failed: false,
+            beginning: Beginning::new(),
         }
     }
 
@@ -107,6 +110,15 @@ impl<'a> Input<'a> {
         }
     }
 
+    /// Looks at what was read: where it begins as what the programs don't read, that is said, once.
+    fn look(&mut self, piece: &[u8])
+        ensures { input_failed self.new ≡ input_failed self.old }
+    {
+        if let Some(kind) = self.beginning.take(piece) {
+            say_of(&self.rt, self.program, self.name, &kind.words());
+        }
+    }
+
     /// Says why it failed.
     fn say(&self, error: io::Error) {
         if self.name == STANDARD {
@@ -132,6 +144,7 @@ impl Source for Input<'_> {
                 if count == 0 && !into.is_empty() {
                     self.opened = Opened::Closed;
                 }
+                self.look(&into[..count]);
                 Some(count)
             }
             Err(error) => {

@@ -7,6 +7,7 @@ ghost use Rattle.anstyle_parse.specs.Io.Buffer.{writer_behind, held_back, is_by_
 ghost use Rattle.anstyle_parse.specs.Io.Devices.{writer_of, writer_failed};
 ghost use Rattle.command_line.specs.Words.{message_of, is_broken_pipe, status_of};
 
+mod beginning;
 mod input_files;
 mod line;
 mod options;

@@ -4,7 +4,7 @@ use Rattle.std.specs.Prelude.{encode_utf8}
 use Rattle.anstyle_parse.specs.Stream.Call.{Call, print}
 use Rattle.anstyle_parse.specs.Stream.Characters.{replacement}
 use Rattle.anstyle_parse.proofs.Characters.Encoding.{encode_one, encode_three}
-use Rattle.stream_state.proofs.LogQuoted.{IsLighter, AreLighter}
+use Rattle.anstyle_parse.specs.Laws.Lighter.{IsLighter, AreLighter}
 use Rattle.ansi_html.specs.declared.scheme.Styling.{Styling}
 use Rattle.ansi_html.specs.Html.{escaped_text, Standing, call_html, standing_after, html_from, beginning}
 use Rattle.stream_state.specs.Log.{end_calls}

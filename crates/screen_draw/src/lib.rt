@@ -53,9 +53,10 @@ use whole::{put_all, put_update};
 /// The terminal is reset first. All is drawn: cells with their styles, what the alternate screen covers,
 /// what is saved, tabs, margins, modes, and the cursor with its style. No memory is taken.
 ///
-/// Not drawn are links, what REP would repeat, whether a row goes on in the next, and the rows that left the screen. A
-/// space stands as a printed one where nothing was printed: where half of a wide character was lost, where marks came
-/// after nothing, and in the last column, where a wrap is pending.
+/// Not drawn are links, what REP would repeat, whether a row goes on in the next, and the rows that left the screen. Those
+/// that the terminal keeps stay, and by the reset the rows of its main screen come to them. A space stands as a printed
+/// one where nothing was printed: where half of a wide character was lost, where marks came after nothing, and in the
+/// last column, where a wrap is pending.
 pub fn draw<W: Sink>(screen: &Screen, output: &mut Output<W>)
     // It adds the canonical text of these calls.
     ensures text { Adds W.Sink (canon (drawn_calls screen.now.display)) output.old output.new }
@@ -96,7 +97,8 @@ pub fn draw<W: Sink>(screen: &Screen, output: &mut Output<W>)
 /// nothing differs, where one of them has origin mode, IRM or line drawing, or in the shown one a wrap is pending after
 /// what is erased. No memory is taken.
 ///
-/// Not drawn is what [`draw`] doesn't draw.
+/// Not drawn is what [`draw`] doesn't draw. The rows that left the terminal, if it keeps any, stay; where all is drawn,
+/// those of its main screen come to them.
 pub fn update<W: Sink>(shown: &Screen, wanted: &Screen, output: &mut Output<W>)
     requires columns { shown.now.display.width ≡ wanted.now.display.width }
     requires rows { shown.now.display.height ≡ wanted.now.display.height }

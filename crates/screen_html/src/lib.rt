@@ -59,7 +59,8 @@ pub use table::{LinkMemory, LinkTable};
 /// shown there: until OSC 8 ends it or begins another, or RIS. Of a stream the last 1,024 links that began are kept:
 /// a row that leaves later, or still shows, has the others no more. The cursor is not shown.
 ///
-/// The bytes are read in pieces of at most 4096 and go to a new parser; no memory is taken. The writer is
+/// The stream may begin on any screen ([`Scrollable::of`](ansi_screen::Scrollable::of)). The bytes are read in pieces of
+/// at most 4096 and go to a new parser; no memory is taken. The writer is
 /// always handed back. The answer is that of [`write_calls_by`], and where a write of the head failed,
 /// `Err(Fault::Write)`: then nothing is read.
 pub fn convert_shown<R: Source, W: Sink>(

@@ -26,7 +26,8 @@ pub use rows::{TextRows, WriteRows};
 /// what was is erased, are left out, and so are rows of such cells at the end. A line feed begins a new line, as
 /// where a terminal's line puts a carriage return before it.
 ///
-/// The bytes are read in pieces of at most 4096 and go to a new parser; no memory is taken. The writer is
+/// The stream may begin on any screen: [`Scrollable::of`] makes room for rows that leave it, which takes memory. Here the
+/// bytes are read in pieces of at most 4096 and go to a new parser; no memory is taken. The writer is
 /// always handed back. The answer is that of [`write_calls_by`].
 pub fn write_shown<R: Source, W: Sink>(
     screen: Scrollable,

@@ -4,4 +4,3 @@ pub mod LentLemmas
 pub mod LogLemmas
 pub mod LogLength
 pub mod LogQuoted
-pub mod LogReading

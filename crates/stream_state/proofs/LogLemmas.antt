@@ -33,7 +33,7 @@ use Rattle.anstyle_parse.proofs.Machine.AsReadStreams.{as_read-more, read_from-b
 use Rattle.anstyle_parse.proofs.Machine.Counted.{counted-step}
 use Rattle.anstyle_parse.proofs.Machine.Passing.{Continues-calls}
 use Rattle.stream_state.specs.Log.{ContinuesLog, EndsLog, end_calls}
-use Rattle.stream_state.proofs.LogReading.{grow-stray, broken_off, IsOutside, calls-break, bell-kept}
+use Rattle.anstyle_parse.proofs.Machine.LogReading.{grow-stray, broken_off, IsOutside, calls-break, bell-kept}
 
 -- the only state in which strings are ignored
 ignored-state : (state : State) → is_in_ignored_string state ≡ true → state ≡ SosPmApcString

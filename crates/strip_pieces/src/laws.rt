@@ -1,5 +1,5 @@
 //! The laws of texts of pieces. Each is the contract of a function that does nothing.
-ghost use Rattle.std.specs.Prelude.{◌≡◌, ℕ, List, [], ◌++◌};
+ghost use Rattle.std.specs.Prelude.{◌≡◌, ◌≤◌, ◌*◌, ℕ, List, [], ◌++◌, length};
 ghost use Rattle.anstyle_parse.specs.Stream.Call.{Call};
 ghost use Rattle.anstyle_parse.specs.Stream.Calls.{AreCalls};
 ghost use Rattle.anstyle_parse.specs.Machine.AsRead.{as_read, as_read_whole};
@@ -9,10 +9,11 @@ ghost use Rattle.strip_pieces.specs.Feed.{IsTextOf, IsEndOf};
 ghost use Rattle.strip_pieces.specs.Lines.{StandsForText, AreLinesOf, AreEndOf};
 
 use crate::lines::LineState;
-use ansi_strip::laws::line_feeds;
+use ansi_strip::laws::{line_feeds, logs};
 
 /// The texts of pieces, one after another, are the text of the whole; and the text of all bytes
-/// of a stream is the inert text of the calls of what is read of them, also with what its end leads to.
+/// of a stream is the inert text of the calls of what is read of them, also with what its end leads to. It is at most
+/// three times as long as the stream.
 pub fn texts_joined()
     ensures pieces { (before bytes more text rest : List ℕ) → IsTextOf before bytes text
         → IsTextOf (before ++ bytes) more rest
@@ -21,7 +22,11 @@ pub fn texts_joined()
         × AreCalls (as_read bytes) calls × (text ≡ inert_text calls) }
     ensures ended { (bytes text end : List ℕ) → IsTextOf [] bytes text → IsEndOf bytes end
         → (calls : List Call) × AreCalls (as_read_whole bytes) calls × (text ++ end ≡ inert_text calls) }
-{}
+    ensures length { (bytes text end : List ℕ) → IsTextOf [] bytes text → IsEndOf bytes end
+        → length (text ++ end) ≤ 3 * length bytes }
+{
+    logs();
+}
 
 /// What is left of pieces of a text by a [`LineState`], one after another, and then what waits at its end, is the whole
 /// text without each carriage return right before a line feed, however it is cut: what a

@@ -10,6 +10,7 @@ use Rattle.ansi_html.specs.Liner.{text_from, ending_from}
 use Rattle.ansi_html.proofs.WriterLemmas.{lined_text_from-new, lined_ending_from-new}
 use Rattle.ansi_html.proofs.LineLemmas.{seen-lined_html, read-lined_html, text-lined_html, IsUtf8-lined_html}
 use Rattle.ansi_html.proofs.NumberLemmas.{AreLines-html}
+use Rattle.ansi_html.proofs.LineBoundLemmas.{length-lined_html}
 use Rattle.ansi_html.proofs.convert_lines.Goals as goal
 
 -- what a new writer writes
@@ -50,3 +51,6 @@ returns-clause-numbered g c = λ bytes calls are. AreLines-html c.args.styling c
 
 pub returns-clause-utf8 : goal.returns-clause-utf8
 returns-clause-utf8 g c = λ bytes calls are. IsUtf8-lined_html c.args.styling calls (AreShowable-lawful false calls (lawful bytes calls are))
+
+pub returns-clause-bound : goal.returns-clause-bound
+returns-clause-bound g c = length-lined_html c.args.styling

@@ -3,8 +3,7 @@ ghost use Rattle.std.specs.Prelude.{◌≡◌, ◌<◌, ◌≤◌, ◌⊎◌, �
 ghost use Rattle.ansi_screen.specs.Display.{IsSized, picture, forgotten, row_cells, shown_cells};
 ghost use Rattle.ansi_screen.specs.Following.{following, IsShownOf, HasSizeOf, with_cells_of, with_cursor_of, with_frame_of};
 
-use crate::display::{Display, Shown};
-use std::snapshot::Snapshot;
+use crate::display::Display;
 
 impl Display {
     ghost use Rattle.ansi_screen.specs.Damage.{KeepsColumns};
@@ -13,17 +12,11 @@ impl Display {
     pub(crate) fn forget(&mut self)
         ensures { self.new ≡ forgotten self.old }
     {
-        self.damage.forget();
-        self.shown = Shown {
-            cells: Snapshot::of(&self.cells),
-            hidden: Snapshot::of(&self.hidden),
-            tabs: Snapshot::of(&self.tabs),
-            saved: Snapshot::of(&self.saved),
-            hidden_saved: Snapshot::of(&self.hidden_saved),
-            top: Snapshot::of(&self.top),
-            bottom: Snapshot::of(&self.bottom),
-            is_alternate: Snapshot::of(&self.is_alternate),
-        };
+        let places = (self.saved, self.hidden_saved);
+        let margins = (self.top, self.bottom);
+        let (cells, hidden, tabs) = (&self.cells, &self.hidden, &self.tabs);
+        let (damage, is_alternate) = (&mut self.damage, self.is_alternate);
+        self.shown = damage.forget(cells, hidden, tabs, places, margins, is_alternate);
     }
 
     /// The rows outside which no cell can have changed: from the first answer up to the second.

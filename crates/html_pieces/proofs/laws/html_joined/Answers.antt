@@ -1,5 +1,5 @@
 -- Calls that continue one another, and what ends them.
-use Rattle.std.proofs.Common.{[], ◌++◌, ap, ap₂, sym, ◌∙◌, append_assoc}
+use Rattle.std.proofs.Common.{[], ◌++◌, length, arith, ap, ap₂, sym, ◌∙◌, append_assoc}
 use Rattle.stream_state.proofs.LogLemmas.{ContinuesLog-append, AreCalls-log_begins}
 use Rattle.ansi_html.specs.Html.{Standing, at_start, html_from, html_ending, standing_at_end}
 use Rattle.ansi_html.specs.AddingProof.{html_from-append, standing_at_end-append}
@@ -26,3 +26,14 @@ returns-clause-whole c = λ styling bytes text end (calls, continues, is) (last,
           ∙ sym (append_assoc left (html_from styling at last) (html_ending (calls ++ last)))
           ∙ ap (λ l. l ++ html_ending (calls ++ last)) (sym (html_from-append styling calls last at_start)),
     )
+
+pub returns-clause-length : goal.returns-clause-length
+returns-clause-length c = λ styling bytes text end (calls, continues, is) (last, ends, closes).
+    let are = continues [] AreCalls-log_begins in
+    let left = html_from styling at_start calls in
+    let at = standing_at_end at_start calls in
+    let joined =
+    ap₂ (λ l r. l ++ r) (is [] AreCalls-log_begins) (closes calls are)
+    ∙ sym (append_assoc left (html_from styling at last) (html_ending (calls ++ last)))
+    ∙ ap (λ l. l ++ html_ending (calls ++ last)) (sym (html_from-append styling calls last at_start)) in
+    omega (arith, ap length joined, c.log_length.ensures styling bytes (calls ++ last) (ends calls are))

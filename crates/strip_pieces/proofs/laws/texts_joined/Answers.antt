@@ -1,5 +1,5 @@
 -- Calls that continue one another, and what ends them.
-use Rattle.std.proofs.Common.{[], ◌++◌, ap, ap₂, sym, ◌∙◌}
+use Rattle.std.proofs.Common.{[], ◌++◌, length, arith, ap, ap₂, sym, ◌∙◌}
 use Rattle.ansi_strip.specs.Inert.{inert_text}
 use Rattle.ansi_strip.proofs.InertLemmas.{inert_text-append}
 use Rattle.stream_state.proofs.LogLemmas.{ContinuesLog-append, AreCalls-log_begins}
@@ -18,3 +18,8 @@ returns-clause-ended c = λ bytes text end (calls, continues, is) (others, ends,
   ends calls (continues [] AreCalls-log_begins),
   ap₂ (λ t e. t ++ e) is also ∙ sym (inert_text-append calls others),
 )
+
+pub returns-clause-length : goal.returns-clause-length
+returns-clause-length c = λ bytes text end (calls, continues, is) (others, ends, also).
+    let joined = ap₂ (λ t e. t ++ e) is also ∙ sym (inert_text-append calls others) in
+    omega (arith, ap length joined, c.logs.ensures.length bytes (calls ++ others) (ends calls (continues [] AreCalls-log_begins)))

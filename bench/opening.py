@@ -25,7 +25,7 @@ HERE = os.path.dirname(os.path.abspath(__file__))
 sys.dont_write_bytecode = True
 sys.path.insert(0, os.path.join(HERE, "../tests"))
 
-import chromium
+from lib import chromium
 
 PROGRAM = os.path.join(HERE, "../crates/ansi2html/out/ansi2html")
 WORDS = "compiling linking src/parser/table.rt warning: unused ok test result passed 0.12s request worker GET /index.html 200".split()

@@ -18,7 +18,7 @@ ROOT = os.path.dirname(os.path.dirname(os.path.realpath(__file__)))
 sys.dont_write_bytecode = True
 sys.path.insert(0, os.path.join(ROOT, "tests"))
 
-import chromium
+from lib import chromium
 
 WIDTH, HEIGHT = 860, 330  # the page's, in pixels; README.md has the width too
 BOTH = "color-scheme: light dark;"

@@ -1,12 +1,12 @@
 #!/usr/bin/env python3
 """The hostile streams of tests/costs for lines, addresses, pages, screens and the library: what each takes at most.
 
-Usage: tests/costs_hostile.py [--help] [--output] [NAME=PATH ..] > tests/hostile_limits.py
+Usage: tests/costs_hostile.py [--help] [--output] [NAME=PATH ..] > tests/lib/hostile_limits.py
 
     --output    the bytes of output alone, which are the same where nothing is proved: None in the place of the instructions, which then have no limit
     NAME=PATH   as for tests/costs
 
-The limits stand in one table, tests/hostile_limits.py. By hand this script writes it anew, a twentieth above what the programs take,
+The limits stand in one table, tests/lib/hostile_limits.py. By hand this script writes it anew, a twentieth above what the programs take,
 where something got cheaper, or dearer for a reason.
 """
 
@@ -85,7 +85,7 @@ def length_of(command, path):
 
 
 def cases(counts, is_within):
-    from hostile_limits import MOST  # (which this script may be about to write)
+    from lib.hostile_limits import MOST  # (which this script may be about to write)
 
     callers = built(counts.folder)
     for group, (commands, streams, _) in GROUPS.items():
@@ -101,7 +101,7 @@ def cases(counts, is_within):
 
 
 def rows(counts, is_counted):
-    """The lines of tests/hostile_limits.py."""
+    """The lines of tests/lib/hostile_limits.py."""
     upper = lambda it: float("%.3g" % (it * 1.05)) if it > 0 else 0
     shown = lambda took: "(%s, %g)" % ("%g" % upper(took[0]) if is_counted else None, upper(took[1]))
     callers = built(counts.folder)

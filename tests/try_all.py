@@ -24,7 +24,7 @@ import tempfile
 
 sys.dont_write_bytecode = True
 
-from stand_ins import put_command
+from lib.stand_ins import put_command
 
 ROOT = os.path.dirname(os.path.dirname(os.path.realpath(__file__)))
 BUILT = [*("crates/{0}/out/{0}".format(it) for it in ("ansi2html", "ansi2text", "ansi2screen", "parselog"))]

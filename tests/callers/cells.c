@@ -1,4 +1,4 @@
-/* Writes what C reads of a screen, by the names of the header, as tests/screen_cells.py has it:
+/* Writes what C reads of a screen, by the names of the header, as tests/lib/screen_cells.py has it:
  *
  *     cells COLUMNS ROWS STREAM [OTHER]
  *     cells COLUMNS ROWS --changes STREAM ..

@@ -1,4 +1,4 @@
-//! Writes what Rust reads of a screen, by the names of the package, as tests/screen_cells.py has it:
+//! Writes what Rust reads of a screen, by the names of the package, as tests/lib/screen_cells.py has it:
 //!
 //!     cells COLUMNS ROWS STREAM [OTHER]
 //!     cells COLUMNS ROWS --changes STREAM ..

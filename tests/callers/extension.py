@@ -1,4 +1,4 @@
-"""All that the extension of the package ansi_proved does, often enough that valgrind tells what is not given back: tests/library_compiled.py
+"""All that the extension of the package ansi_proved does, often enough that valgrind tells what is not given back: tests/lib/library_compiled.py
 runs it so. PYTHONPATH says where the package is."""
 
 import gc

@@ -1,6 +1,6 @@
 /* Stands before the C library (LD_PRELOAD) and says on standard error, a line for each call, how a program makes or cuts a file, gives it
  * its rights and its place, and asks for it to be on the disk. With REFUSED=CALL that call is refused, and with OTHER_DEVICES each file has
- * the same number, on a device by the length of its name; then nothing is said. For tests/files.py. */
+ * the same number, on a device by the length of its name; then nothing is said. For tests/lib/files.py. */
 #define _GNU_SOURCE
 #include <dlfcn.h>
 #include <errno.h>

@@ -1,4 +1,4 @@
-"""Calls of the Python package, for a type checker: tests/library_packages.py holds what it says of this file to the comments. A line that
+"""Calls of the Python package, for a type checker: tests/lib/library_packages.py holds what it says of this file to the comments. A line that
 ends in `# wrong` is one that it has to refuse, and any other one that it has to take."""
 
 import io

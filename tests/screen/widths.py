@@ -11,7 +11,7 @@ import os
 import re
 import unicodedata
 
-import needs
+from lib import needs
 import twin
 
 ROOT = os.path.dirname(os.path.dirname(os.path.dirname(os.path.realpath(__file__))))

@@ -1,5 +1,5 @@
 -- What the calls from C do.
-use Rattle.std.specs.Prelude.{◌≡◌, ◌⊎◌, ℕ, List, [], Option, None, Some}
+use Rattle.std.specs.Prelude.{◌≡◌, ◌⊎◌, ⊤, ℕ, List, [], Option, None, Some}
 use Rattle.ansi_screen.specs.After.{new_state}
 use Rattle.ansi_screen.specs.Display.{Display}
 use Rattle.screen_pieces.specs.declared.terminal.Terminal.{Terminal}
@@ -7,12 +7,17 @@ use Rattle.screen_pieces.specs.Drawing.{update_of}
 use Rattle.screen_pieces.specs.Terminal.{display_of, history_of, StandsAfter, IsNew}
 use Rattle.ansi_screen.specs.History.{Kept}
 use Rattle.screen_pieces.specs.Same.{ShowSame}
-use Rattle.screen_pieces.specs.Text.{HasText, LacksRoom}
+use Rattle.screen_pieces.specs.Text.{HasText, LacksRoom, IsNotRead}
 
 -- A screen is held, of which this holds.
 abbrev pub Holds : (Terminal → Type 0) → Option Terminal → Type 0
 Holds P None = ⊥
 Holds P (Some terminal) = P terminal
+
+-- None is held, or one of which this holds.
+abbrev pub IsNoneOr : (Terminal → Type 0) → Option Terminal → Type 0
+IsNoneOr P None = ⊤
+IsNoneOr P (Some terminal) = P terminal
 
 -- It is a new one, at the beginning of a stream.
 abbrev pub Opens : (columns rows : ℕ) → Option Terminal → Type 0
@@ -31,18 +36,33 @@ Both R (Some old) held = Holds (R old) held
 abbrev pub Reads : (Display → List ℕ) → (room room_after : List ℕ) (written : ℕ) → Terminal → Type 0
 Reads read room room_after written terminal = HasText (read (display_of terminal)) room room_after written
 
--- It is not: the number is 0, or the room has fewer bytes than the text, whose length is told.
-abbrev pub IsRefused : (Display → List ℕ) → (room : List ℕ) (needed : ℕ) → Option Terminal → Type 0
-IsRefused read room needed None = needed ≡ 0
-IsRefused read room needed (Some terminal) = (needed ≡ 0) ⊎ LacksRoom (read (display_of terminal)) room needed
+-- It is not: no screen is held, and the number is 0; or the room has fewer bytes than the text, whose length is told; or
+-- the number is 0 where the screen lacks what is asked for.
+abbrev pub IsRefused : (lacking : Display → Type 0) → (Display → List ℕ) → (room : List ℕ) (needed : ℕ)
+    → Option Terminal → Type 0
+IsRefused lacking read room needed None = needed ≡ 0
+IsRefused lacking read room needed (Some terminal) =
+    IsNotRead (lacking (display_of terminal)) (read (display_of terminal)) room needed
 
--- the same of what is kept of the rows that left
+-- It is not, where memory is taken: so the number can be 0 of any screen, since no clause sees that memory is wanting.
+abbrev pub IsRefusedOf : (Terminal → List ℕ) → (room : List ℕ) (needed : ℕ) → Option Terminal → Type 0
+IsRefusedOf read room needed None = needed ≡ 0
+IsRefusedOf read room needed (Some terminal) = (needed ≡ 0) ⊎ LacksRoom (read terminal) room needed
+
+-- It is not, where nothing can be lacking: no screen is held, or the room has fewer bytes.
+abbrev pub HasNoRoomOf : (Terminal → List ℕ) → (room : List ℕ) (needed : ℕ) → Option Terminal → Type 0
+HasNoRoomOf read room needed None = needed ≡ 0
+HasNoRoomOf read room needed (Some terminal) = LacksRoom (read terminal) room needed
+
+-- the same as the first two of what is kept of the rows that left
 abbrev pub ReadsKept : (Kept → List ℕ) → (room room_after : List ℕ) (written : ℕ) → Terminal → Type 0
 ReadsKept read room room_after written terminal = HasText (read (history_of terminal)) room room_after written
 
-abbrev pub IsRefusedKept : (Kept → List ℕ) → (room : List ℕ) (needed : ℕ) → Option Terminal → Type 0
-IsRefusedKept read room needed None = needed ≡ 0
-IsRefusedKept read room needed (Some terminal) = (needed ≡ 0) ⊎ LacksRoom (read (history_of terminal)) room needed
+abbrev pub IsRefusedKept : (lacking : Kept → Type 0) → (Kept → List ℕ) → (room : List ℕ) (needed : ℕ)
+    → Option Terminal → Type 0
+IsRefusedKept lacking read room needed None = needed ≡ 0
+IsRefusedKept lacking read room needed (Some terminal) =
+    IsNotRead (lacking (history_of terminal)) (read (history_of terminal)) room needed
 
 -- The bytes of an update stand at the front of the room; or not: the number is 0, or the room has fewer bytes.
 abbrev pub ReadsUpdate : (room room_after : List ℕ) (written : ℕ) → Terminal → Terminal → Type 0
@@ -59,10 +79,6 @@ IsRefusedUpdate room needed shown wanted = (needed ≡ 0) ⊎ Both (LacksUpdate 
 abbrev pub ShowSameOf : Terminal → Terminal → Type 0
 ShowSameOf one other = ShowSame (display_of one) (display_of other)
 
--- Bytes of a screen stand at the front of the room; or not, as above.
+-- Bytes of a screen stand at the front of the room.
 abbrev pub ReadsOf : (Terminal → List ℕ) → (room room_after : List ℕ) (written : ℕ) → Terminal → Type 0
 ReadsOf read room room_after written terminal = HasText (read terminal) room room_after written
-
-abbrev pub IsRefusedOf : (Terminal → List ℕ) → (room : List ℕ) (needed : ℕ) → Option Terminal → Type 0
-IsRefusedOf read room needed None = needed ≡ 0
-IsRefusedOf read room needed (Some terminal) = (needed ≡ 0) ⊎ LacksRoom (read terminal) room needed

@@ -1,8 +1,9 @@
 //! What can have changed of the screen, for C.
 ghost use Rattle.std.specs.Prelude.{◌≡◌, None};
 ghost use Rattle.std.specs.Bool.{OnTrue, OnFalse};
-ghost use Rattle.screen_pieces.specs.Terminal.{CanHaveChanged, IsCopy};
-ghost use Rattle.ansi_screen_c.specs.Calls.{Both, Holds};
+ghost use Rattle.screen_pieces.specs.Terminal.{CanHaveChanged, IsCopy, display_of};
+ghost use Rattle.screen_pieces.specs.Text.{LacksRow};
+ghost use Rattle.ansi_screen_c.specs.Calls.{Both, Holds, IsNoneOr};
 
 use crate::handle::Handle;
 use std::alloc::Global;
@@ -21,6 +22,7 @@ pub extern "C" fn ansi_screen_changed(
     ensures columns { OnTrue result (Holds (CanHaveChanged row first.new past.new) screen.old.value) }
     ensures kept { screen.new.value ≡ screen.old.value }
     ensures refused { OnFalse result ((first.new ≡ first.old) × (past.new ≡ past.old)) }
+    ensures lacking { OnFalse result (IsNoneOr (λ terminal. LacksRow row (display_of terminal)) screen.old.value) }
 {
     match screen.take(alloc) {
         None => false,

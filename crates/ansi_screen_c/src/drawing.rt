@@ -2,7 +2,8 @@
 ghost use Rattle.std.specs.Prelude.{◌≡◌};
 ghost use Rattle.std.specs.Bool.{OnTrue, OnFalse};
 ghost use Rattle.screen_pieces.specs.Drawing.{drawing_of};
-ghost use Rattle.ansi_screen_c.specs.Calls.{Both, Holds, Reads, IsRefused, ReadsUpdate, IsRefusedUpdate};
+ghost use Rattle.screen_pieces.specs.Terminal.{display_of};
+ghost use Rattle.ansi_screen_c.specs.Calls.{Both, Holds, Reads, IsRefusedOf, ReadsUpdate, IsRefusedUpdate};
 
 use crate::handle::Handle;
 use crate::told;
@@ -20,7 +21,8 @@ pub extern "C" fn ansi_screen_draw(
 ) -> bool
     ensures text { OnTrue result (Holds (Reads drawing_of room.old room.new written.new) screen.old.value) }
     ensures kept { screen.new.value ≡ screen.old.value }
-    ensures refused { OnFalse result (IsRefused drawing_of room.old written.new screen.old.value) }
+    ensures refused { OnFalse result (IsRefusedOf (λ terminal. drawing_of (display_of terminal)) room.old written.new
+        screen.old.value) }
 {
     match screen.take(alloc) {
         None => {

@@ -1,9 +1,9 @@
 //! Rows that left the screen, for C.
-ghost use Rattle.std.specs.Prelude.{◌≡◌, None, length};
+ghost use Rattle.std.specs.Prelude.{◌≡◌, ◌<◌, ◌⊎◌, None, length};
 ghost use Rattle.std.specs.Bool.{OnTrue, OnFalse};
-ghost use Rattle.screen_pieces.specs.History.{text_of_kept};
+ghost use Rattle.screen_pieces.specs.History.{kept_row, text_of_kept, LacksKept};
 ghost use Rattle.screen_pieces.specs.Terminal.{HasKeptRow, history_of};
-ghost use Rattle.ansi_screen_c.specs.Calls.{OpensWith, Holds, ReadsKept, IsRefusedKept};
+ghost use Rattle.ansi_screen_c.specs.Calls.{OpensWith, Holds, IsNoneOr, ReadsKept, IsRefusedKept};
 
 use crate::handle::Handle;
 use crate::{boxed, told};
@@ -57,6 +57,7 @@ pub extern "C" fn ansi_screen_history(
         × (left.new ≡ (history_of terminal).left)) screen.old.value) }
     ensures same { screen.new.value ≡ screen.old.value }
     ensures refused { OnFalse result ((kept.new ≡ kept.old) × (left.new ≡ left.old)) }
+    ensures none { OnFalse result (screen.old.value ≡ None) }
 {
     match screen.take(alloc) {
         None => false,
@@ -82,6 +83,8 @@ pub extern "C" fn ansi_screen_history_row(
         screen.old.value) }
     ensures kept { screen.new.value ≡ screen.old.value }
     ensures refused { OnFalse result (room.new ≡ room.old) }
+    ensures lacking { OnFalse result (IsNoneOr (λ terminal. LacksKept number (history_of terminal)
+        ⊎ (length room.old < length (kept_row number (history_of terminal)))) screen.old.value) }
 {
     match screen.take(alloc) {
         None => false,
@@ -105,7 +108,8 @@ pub extern "C" fn ansi_screen_history_text(
     ensures text { OnTrue result (Holds (ReadsKept (text_of_kept number) room.old room.new written.new)
         screen.old.value) }
     ensures kept { screen.new.value ≡ screen.old.value }
-    ensures refused { OnFalse result (IsRefusedKept (text_of_kept number) room.old written.new screen.old.value) }
+    ensures refused { OnFalse result (IsRefusedKept (LacksKept number) (text_of_kept number) room.old written.new
+        screen.old.value) }
 {
     match screen.take(alloc) {
         None => {

@@ -11,11 +11,12 @@ mod page;
 mod same;
 mod text;
 
-ghost use Rattle.std.specs.Prelude.{◌≡◌, ◌≤◌, None, Some, IfSome};
+ghost use Rattle.std.specs.Prelude.{◌≡◌, ◌<◌, ◌≤◌, ◌⊎◌, None, Some, IfSome, length};
 ghost use Rattle.std.specs.Bool.{OnTrue, OnFalse};
 ghost use Rattle.ansi_style.specs.Bytes.{style_of};
 ghost use Rattle.screen_pieces.specs.Terminal.{IsNew, Feeds, Begins, HasCell, HasRow, HasModes, display_of};
-ghost use Rattle.ansi_screen_c.specs.Calls.{Opens, Both, Holds};
+ghost use Rattle.screen_pieces.specs.Text.{LacksRow, LacksCell};
+ghost use Rattle.ansi_screen_c.specs.Calls.{Opens, Both, Holds, IsNoneOr};
 
 use ansi_screen::{MAX_COLUMNS, MAX_ROWS, MIN_COLUMNS, MIN_ROWS};
 use handle::Handle;
@@ -141,6 +142,7 @@ pub extern "C" fn ansi_screen_size(
         × (rows.new ≡ (display_of terminal).height)) screen.old.value) }
     ensures kept { screen.new.value ≡ screen.old.value }
     ensures refused { OnFalse result ((columns.new ≡ columns.old) × (rows.new ≡ rows.old)) }
+    ensures none { OnFalse result (screen.old.value ≡ None) }
 {
     match screen.take(alloc) {
         None => false,
@@ -165,6 +167,7 @@ pub extern "C" fn ansi_screen_cursor(
         × (column.new ≡ (display_of terminal).cursor.column)) screen.old.value) }
     ensures kept { screen.new.value ≡ screen.old.value }
     ensures refused { OnFalse result ((row.new ≡ row.old) × (column.new ≡ column.old)) }
+    ensures none { OnFalse result (screen.old.value ≡ None) }
 {
     match screen.take(alloc) {
         None => false,
@@ -188,6 +191,7 @@ pub extern "C" fn ansi_screen_style(
         (Holds (λ terminal. style_of style.new ≡ (display_of terminal).cursor.style) screen.old.value) }
     ensures kept { screen.new.value ≡ screen.old.value }
     ensures refused { OnFalse result (style.new ≡ style.old) }
+    ensures none { OnFalse result (screen.old.value ≡ None) }
 {
     match screen.take(alloc) {
         None => false,
@@ -210,6 +214,7 @@ pub extern "C" fn ansi_screen_modes(
     ensures modes { OnTrue result (Holds (λ terminal. HasModes modes.new (display_of terminal)) screen.old.value) }
     ensures kept { screen.new.value ≡ screen.old.value }
     ensures refused { OnFalse result (modes.new ≡ modes.old) }
+    ensures none { OnFalse result (screen.old.value ≡ None) }
 {
     match screen.take(alloc) {
         None => false,
@@ -235,6 +240,8 @@ pub extern "C" fn ansi_screen_cell(
     ensures cell { OnTrue result (Holds (HasCell row column cell.new) screen.old.value) }
     ensures kept { screen.new.value ≡ screen.old.value }
     ensures refused { OnFalse result (cell.new ≡ cell.old) }
+    ensures lacking { OnFalse result
+        (IsNoneOr (λ terminal. LacksCell row column (display_of terminal)) screen.old.value) }
 {
     match screen.take(alloc) {
         None => false,
@@ -263,6 +270,7 @@ fn put_any_cell(
     ensures cell { OnTrue result (HasCell row column cell.new held.value) }
     ensures kept { screen.new.value ≡ Some held.value }
     ensures refused { OnFalse result (cell.new ≡ cell.old) }
+    ensures lacking { OnFalse result (LacksCell row column (display_of held.value)) }
 {
     let written = held.put_cell(row, column, cell);
     screen.put(held);
@@ -281,6 +289,8 @@ pub extern "C" fn ansi_screen_row(
     ensures row { OnTrue result (Holds (HasRow row room.old room.new) screen.old.value) }
     ensures kept { screen.new.value ≡ screen.old.value }
     ensures refused { OnFalse result (room.new ≡ room.old) }
+    ensures lacking { OnFalse result (IsNoneOr (λ terminal. LacksRow row (display_of terminal)
+        ⊎ (length room.old < (display_of terminal).width)) screen.old.value) }
 {
     match screen.take(alloc) {
         None => false,

@@ -4,7 +4,7 @@ ghost use Rattle.std.specs.Bool.{OnTrue, OnFalse};
 ghost use Rattle.screen_html.specs.Links.{link_at};
 ghost use Rattle.screen_pieces.specs.Page.{html_of};
 ghost use Rattle.screen_pieces.specs.Terminal.{links_of};
-ghost use Rattle.ansi_screen_c.specs.Calls.{Holds, ReadsOf, IsRefusedOf};
+ghost use Rattle.ansi_screen_c.specs.Calls.{Holds, ReadsOf, IsRefusedOf, HasNoRoomOf};
 
 use crate::handle::Handle;
 use crate::told;
@@ -50,7 +50,7 @@ pub extern "C" fn ansi_screen_link(
     ensures uri { OnTrue result (Holds (ReadsOf (λ terminal. link_at number (links_of terminal)) room.old room.new
         written.new) screen.old.value) }
     ensures kept { screen.new.value ≡ screen.old.value }
-    ensures refused { OnFalse result (IsRefusedOf (λ terminal. link_at number (links_of terminal)) room.old written.new
+    ensures refused { OnFalse result (HasNoRoomOf (λ terminal. link_at number (links_of terminal)) room.old written.new
         screen.old.value) }
 {
     match screen.take(alloc) {

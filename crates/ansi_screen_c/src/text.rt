@@ -2,8 +2,9 @@
 ghost use Rattle.std.specs.Prelude.{◌≡◌};
 ghost use Rattle.std.specs.Bool.{OnTrue, OnFalse};
 ghost use Rattle.ansi_screen.specs.Text.{text_of};
-ghost use Rattle.screen_pieces.specs.Text.{text_of_row, text_of_part};
-ghost use Rattle.ansi_screen_c.specs.Calls.{Holds, Reads, IsRefused};
+ghost use Rattle.screen_pieces.specs.Text.{text_of_row, text_of_part, LacksRow, LacksPart};
+ghost use Rattle.screen_pieces.specs.Terminal.{display_of};
+ghost use Rattle.ansi_screen_c.specs.Calls.{Holds, Reads, IsRefused, HasNoRoomOf};
 
 use crate::handle::Handle;
 use crate::told;
@@ -20,7 +21,8 @@ pub extern "C" fn ansi_screen_text(
 ) -> bool
     ensures text { OnTrue result (Holds (Reads text_of room.old room.new written.new) screen.old.value) }
     ensures kept { screen.new.value ≡ screen.old.value }
-    ensures refused { OnFalse result (IsRefused text_of room.old written.new screen.old.value) }
+    ensures refused { OnFalse result (HasNoRoomOf (λ terminal. text_of (display_of terminal)) room.old written.new
+        screen.old.value) }
 {
     match screen.take(alloc) {
         None => {
@@ -47,7 +49,8 @@ pub extern "C" fn ansi_screen_row_text(
 ) -> bool
     ensures text { OnTrue result (Holds (Reads (text_of_row row) room.old room.new written.new) screen.old.value) }
     ensures kept { screen.new.value ≡ screen.old.value }
-    ensures refused { OnFalse result (IsRefused (text_of_row row) room.old written.new screen.old.value) }
+    ensures refused { OnFalse result
+        (IsRefused (LacksRow row) (text_of_row row) room.old written.new screen.old.value) }
 {
     match screen.take(alloc) {
         None => {
@@ -77,7 +80,8 @@ pub extern "C" fn ansi_screen_part_text(
     ensures text { OnTrue result (Holds (Reads (text_of_part row start end) room.old room.new written.new)
         screen.old.value) }
     ensures kept { screen.new.value ≡ screen.old.value }
-    ensures refused { OnFalse result (IsRefused (text_of_part row start end) room.old written.new screen.old.value) }
+    ensures refused { OnFalse result (IsRefused (LacksPart row start end) (text_of_part row start end) room.old
+        written.new screen.old.value) }
 {
     match screen.take(alloc) {
         None => {

@@ -9,4 +9,3 @@ pub mod LaneLemmas
 pub mod PassLemmas
 pub mod LineFeedLemmas
 pub mod LineTextLemmas
-pub mod LogLemmas

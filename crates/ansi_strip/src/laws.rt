@@ -4,15 +4,12 @@ ghost use Rattle.std.specs.List.{AllByRecursion};
 ghost use Rattle.anstyle_parse.specs.Stream.Bytes.{escape_byte};
 ghost use Rattle.anstyle_parse.specs.Stream.Call.{Call};
 ghost use Rattle.anstyle_parse.specs.Stream.Calls.{AreCalls, Continues};
-ghost use Rattle.anstyle_parse.specs.Machine.AsRead.{as_read, as_read_whole};
 ghost use Rattle.ansi_strip.specs.EightBit.{AreEightBitCalls, is_shown};
 ghost use Rattle.ansi_strip.specs.Inert.{is_inert, inert_text, IsInertText};
 ghost use Rattle.ansi_strip.specs.LineFeeds.{without_returns, HasNone, waiting, decided};
 ghost use Rattle.ansi_strip.specs.Strip.{is_left, IsClean, stripped};
 
-use anstyle_parse::laws::{
-    bounds, calls_are_lawful, calls_of_bytes, log_bounds, read_logs, replay,
-};
+use anstyle_parse::laws::{bounds, calls_are_lawful, calls_of_bytes, replay};
 
 /// Nothing but text is left: a parser that reads stripped text makes exactly those calls that
 /// were left, and so no other.
@@ -143,33 +140,6 @@ pub fn inert_cut_before_escape()
         → inert_text whole ≡ inert_text first ++ inert_text rest }
 {
     calls_of_bytes();
-}
-
-/// What `ansi2text` and the library write of a log: the inert text of what is read of it, to its end
-/// ([`Parser::advance_log`](anstyle_parse::Parser::advance_log), `end_log`). It is at most three times as long as the
-/// log. A log may be cut before any ESC byte, and its parts stripped apart, each but the last with that ESC after it.
-/// What was stripped, stripped again, is the same, and so is any inert text: also at its end nothing is added.
-pub fn logs()
-    ensures length { (log : List ℕ) (calls : List Call) → AreCalls (as_read_whole log) calls
-        → length (inert_text calls) ≤ 3 * length log }
-    ensures so_far { (log : List ℕ) (calls : List Call) → AreCalls (as_read log) calls
-        → length (inert_text calls) ≤ 3 * length log }
-    ensures parts { (before bytes : List ℕ) (first rest whole : List Call)
-        → AreCalls (as_read_whole (before ++ escape_byte ∷ [])) first
-        → AreCalls (as_read_whole (escape_byte ∷ bytes)) rest
-        → AreCalls (as_read_whole (before ++ escape_byte ∷ bytes)) whole
-        → inert_text whole ≡ inert_text first ++ inert_text rest }
-    ensures twice { (log : List ℕ) (calls again : List Call) → AreCalls (as_read_whole log) calls
-        → AreCalls (as_read_whole (inert_text calls)) again → inert_text again ≡ inert_text calls }
-    ensures clean { (text : List ℕ) (calls : List Call) → IsInertText text → AreCalls (as_read_whole text) calls
-        → inert_text calls ≡ text }
-{
-    log_bounds();
-    read_logs();
-    inert_cut_before_escape();
-    inert_twice();
-    inert_utf8();
-    inert_clean_text();
 }
 
 /// What a [`LineFeeds`](crate::LineFeeds) writes of a text, and then what waits at its end, is the text without each

@@ -1,7 +1,7 @@
 -- Sources that were read, one after another.
 use Rattle.std.proofs.Common.{◌≡◌, ℕ, Bool, true, false, ◌&&◌, not, List, [], ◌∷◌, ◌++◌, Option, None, Some, Result, Ok, Err, is_err, ◌⊎◌, inl, inr, length, set, get_or, ◌<◌, refl, sym, ◌∙◌, subst, arith}
 use Rattle.std.specs.List.{flat_map}
-use Rattle.std.specs.Io.KnownBytes.{Appends, Consumes}
+use Rattle.std.specs.Io.KnownBytes.{Appends}
 use Rattle.std.proofs.KnownBytes.{Appends-kept}
 use Rattle.anstyle_parse.specs.declared.io.Fault.{Fault}
 use Rattle.anstyle_parse.specs.declared.io.Fault.TheVariants.{Read, Write, Flush}
@@ -12,7 +12,7 @@ use Rattle.anstyle_parse.specs.Io.Output.{writer_in, fault_in, Adds, Finishes, W
 use Rattle.anstyle_parse.specs.declared.io.devices.Source.{Ghosts as SourceOf}
 use Rattle.each_source.specs.declared.Stopped.{Stopped}
 use Rattle.each_source.specs.declared.Stopped.TheVariants.{NoMemory, Stuck, AtFault}
-use Rattle.each_source.specs.Each.{Given, IsRead, IsBegun, AreRead, AreWhole, LacksMemory, AddsEach, Reaches, WritesEach, stopped_by}
+use Rattle.each_source.specs.Each.{Given, IsRead, IsFrontRead, IsBegun, AreRead, AreWhole, LacksMemory, AddsEach, Reaches, WritesEach, stopped_by}
 
 module _ {R : Type 0} (source : SourceOf R) where
   -- what is known of sources that were read whole is known where less is
@@ -64,11 +64,8 @@ module _ {R : Type 0} (source : SourceOf R) where
       (AreRead-push readers readers_after given more d after there are read)
 
   -- the next source is begun
-  abbrev IsFrontOf : R → R → Type 0
-  IsFrontOf reader after = (front : List ℕ) × Consumes (source.remaining reader) (source.remaining after) front
-
   AreRead-begin : (A : Type 0) {B : Type 0} (readers readers_after : List R) (given : List Given) (d after : R) → B
-      → length given < length readers_after → AreRead source A ⊥ readers readers_after given → IsFrontOf (get_or readers_after (length given) d) after
+      → length given < length readers_after → AreRead source A ⊥ readers readers_after given → IsFrontRead source (get_or readers_after (length given) d) after
       → AreRead source A B readers (set readers_after (length given) after) given
   AreRead-begin A {B = B} readers (reader ∷ readers_after) [] d after why below (inl same) is =
       inr (why, subst (λ rs. IsBegun source rs (after ∷ readers_after)) same (is, refl))
@@ -80,11 +77,11 @@ module _ {R : Type 0} (source : SourceOf R) where
 
   pub AreRead-begin_at : (A : Type 0) {B : Type 0} (readers readers_after : List R) (given : List Given) (d reader after : R) (i : ℕ) → B
       → length given ≡ i → i < length readers_after → reader ≡ get_or readers_after i d → AreRead source A ⊥ readers readers_after given
-      → (front : List ℕ) × Consumes (source.remaining reader) (source.remaining after) front
+      → IsFrontRead source reader after
       → AreRead source A B readers (set readers_after i after) given
   AreRead-begin_at A {B = B} readers readers_after given d reader after i why e below its are is =
       let there : length given < length readers_after = omega (arith, e, below) in
-      let read = subst (λ k. IsFrontOf (get_or readers_after k d) after) (sym e) (subst (λ r. IsFrontOf r after) its is) in
+      let read = subst (λ k. IsFrontRead source (get_or readers_after k d) after) (sym e) (subst (λ r. IsFrontRead source r after) its is) in
       subst (λ k. AreRead source A B readers (set readers_after k after) given) e
       (AreRead-begin A readers readers_after given d after why there are read)
 

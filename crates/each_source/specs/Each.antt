@@ -45,10 +45,19 @@ pub record IsRead {R : Type 0} (source : SourceOf R) (whole : Type 0) (reader re
   pub are_calls : AreCalls (text_read at_end given.read) given.calls
   pub ended : whole → IsTrue at_end × HasEnded source reader_after (length given.read)
 
+-- so many bytes at the front of a stream always say which performer it has
+abbrev pub most_front : ℕ
+most_front = 4096
+
+-- The front of a source was read, and no more.
+abbrev pub IsFrontRead : {R : Type 0} → SourceOf R → (reader reader_after : R) → Type 0
+IsFrontRead source reader after = (front : List ℕ) × (length front ≤ most_front)
+    × Consumes (source.remaining reader) (source.remaining after) front
+
 -- Of the first source the front was read, and the others were not touched.
 abbrev pub IsBegun : {R : Type 0} → SourceOf R → (readers readers_after : List R) → Type 0
 IsBegun source (reader ∷ readers) (after ∷ readers_after) =
-    ((front : List ℕ) × Consumes (source.remaining reader) (source.remaining after) front) × (readers_after ≡ readers)
+    IsFrontRead source reader after × (readers_after ≡ readers)
 IsBegun source _ _ = ⊥
 
 -- The first sources were read, each with its calls; where the next one was begun its front was read, and the others

@@ -5,9 +5,8 @@
 mod one_source;
 
 ghost use Rattle.std.specs.Prelude.{◌≡◌, ◌≤◌, ◌++◌, ℕ, Bool, List, None, OnOk, IfOk, IfErr, IsTrue, length};
-ghost use Rattle.std.specs.Io.KnownBytes.{Consumes};
 ghost use Rattle.anstyle_parse.specs.Io.Output.{fault_in, Adds};
-ghost use Rattle.each_source.specs.Each.{Given, BeginsWith, WritesOne, AddsEach, WritesEach, stopped_by};
+ghost use Rattle.each_source.specs.Each.{Given, BeginsWith, WritesOne, AddsEach, WritesEach, IsFrontRead, stopped_by};
 
 use anstyle_parse::io::{Fault, FromRead, Output, Sink, Source, WritingPerformer};
 pub use one_source::MOST_FRONT;
@@ -65,7 +64,7 @@ pub trait Begin<P: WritingPerformer<W>, W: Sink> {
 
 /// Writes the text of all that the reader gives, and its ending, to an output with no fault: until the reader
 /// ends or fails, or the output does, or its writer is stuck, which the answer says. `Err` where there is no memory for
-/// the performer: then no more is read than what `begin` looked at.
+/// the performer: then no more is read than what `begin` looked at, at most [`MOST_FRONT`] bytes.
 fn write_one<P: WritingPerformer<W>, B: Begin<P, W>, R: Stream, W: Sink>(
     begin: &B,
     reader: &mut R,
@@ -75,8 +74,7 @@ fn write_one<P: WritingPerformer<W>, B: Begin<P, W>, R: Stream, W: Sink>(
     ensures written { IfOk result (λ one. WritesOne R.Source W.Sink
         (λ given. B.text begin.now given ++ B.ending begin.now given) reader.old reader.new output one.0 one.1) }
     ensures kept { IfErr result (λ after. after ≡ output) }
-    ensures begun { IfErr result (λ _. (front : List ℕ)
-        × Consumes (R.remaining reader.old) (R.remaining reader.new) front) }
+    ensures begun { IfErr result (λ _. IsFrontRead R.Source reader.old reader.new) }
 {
     let mut piece = [0; PIECE];
     let (count, reached) = read_front::<P, B, R, W>(begin, reader, &mut piece);
@@ -145,7 +143,7 @@ fn stopped_by(answer: Result<(), Fault>) -> Result<(), Stopped>
 ///   was read by then were given to the writer, no more is read, and then it is flushed once, whatever that answers;
 /// - `Err(NoMemory)` where `begin` had no memory for the next stream's performer: the texts before it are written,
 ///   and then the writer is flushed once, whatever that answers. Of the next stream no more is read than `begin` looks
-///   at.
+///   at, at most [`MOST_FRONT`] bytes.
 // (out of line: a program has one for each kind of performer, and in one frame they would touch the memory of all)
 #[inline(never)]
 pub fn write_each<P: WritingPerformer<W>, B: Begin<P, W>, R: Stream, W: Sink>(

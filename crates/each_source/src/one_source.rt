@@ -1,5 +1,5 @@
 //! What one source gives, to a performer, as long as what that writes gets on.
-ghost use Rattle.std.specs.Prelude.{◌≡◌, ◌≤◌, false, None, IfSome, IfNone, length, take};
+ghost use Rattle.std.specs.Prelude.{◌≡◌, ◌≤◌, [], true, false, None, IfSome, IfNone, length, take};
 ghost use Rattle.std.specs.Io.KnownBytes.{Consumes};
 ghost use Rattle.anstyle_parse.specs.Io.Output.{fault_in};
 ghost use Rattle.each_source.specs.Ended.{is_stuck, HasNoEscape, IsLastEscape, GivesOn, IsUpTo, Reads};
@@ -82,13 +82,14 @@ fn last_escape(bytes: &[u8]) -> Option<usize>
 }
 
 /// Reads the front of a stream, as far as it has to be seen before its performer begins: to the front of this piece.
-/// The answer is how many bytes there are, and how far the source is read.
+/// The answer is how many bytes there are, and how far the source is read: where none has to be seen none is read.
 pub(crate) fn read_front<P: WritingPerformer<W>, B: Begin<P, W>, R: Source, W: Sink>(
     begin: &B,
     reader: &mut R,
     piece: &mut [u8; PIECE],
 ) -> (usize, Reached)
     ensures within { result.0 ≤ PIECE }
+    ensures none { B.enough begin.now [] ≡ true → result.0 ≡ 0 }
     ensures consumed { Consumes (R.remaining reader.old) (R.remaining reader.new) (take result.0 piece.new) }
     ensures reached { IsUpTo R.Source (B.enough begin.now) reader.new (take result.0 piece.new) result.1 }
 {

@@ -1,5 +1,5 @@
 -- The last rows that left a screen, of as many as were asked for.
-use Rattle.std.specs.Prelude.{◌≡◌, ℕ, Option, None, Some, List, [], length, slice_index_or}
+use Rattle.std.specs.Prelude.{◌≡◌, ◌≤◌, ℕ, Option, None, Some, List, [], length, slice_index_or}
 use Rattle.std.specs.Option.{option_map}
 use Rattle.anstyle_parse.specs.Stream.Call.{Call}
 use Rattle.anstyle_parse.specs.Stream.Calls.{AreCalls}
@@ -33,3 +33,7 @@ kept_row number kept = slice_index_or kept.rows number []
 
 abbrev pub text_of_kept : ℕ → Kept → List ℕ
 text_of_kept number kept = row_text (kept_row number kept)
+
+-- There is no such row.
+abbrev pub LacksKept : ℕ → Kept → Type 0
+LacksKept number kept = length kept.rows ≤ number

@@ -38,3 +38,17 @@ text_of_row row d = row_text (row_cells row d)
 
 abbrev pub text_of_part : (row start end : ℕ) → Display → List ℕ
 text_of_part row start end d = flat_map cell_text (take (end - start) (drop start (row_cells row d)))
+
+-- No text is read: 0 is told where what is asked for is lacking, and else the room has fewer bytes.
+abbrev pub IsNotRead : (lacking : Type 0) → (text room : List ℕ) (needed : ℕ) → Type 0
+IsNotRead lacking text room needed = ((needed ≡ 0) × lacking) ⊎ LacksRoom text room needed
+
+-- There is no such row; or there are no such columns of it.
+abbrev pub LacksRow : ℕ → Display → Type 0
+LacksRow row d = d.height ≤ row
+
+abbrev pub LacksPart : (row start end : ℕ) → Display → Type 0
+LacksPart row start end d = LacksRow row d ⊎ ((end < start) ⊎ (d.width < end))
+
+abbrev pub LacksCell : (row column : ℕ) → Display → Type 0
+LacksCell row column d = LacksRow row d ⊎ (d.width ≤ column)

@@ -3,8 +3,8 @@ ghost use Rattle.std.specs.Prelude.{◌≡◌, ◌<◌, ◌≤◌, ◌⊎◌, le
 ghost use Rattle.std.specs.Bool.{OnTrue, OnFalse};
 ghost use Rattle.ansi_screen.specs.Text.{row_text, text_of};
 ghost use Rattle.ansi_style.specs.Bytes.{style_of};
-ghost use Rattle.screen_pieces.specs.Text.{HasText, LacksRoom, text_of_row, text_of_part};
-ghost use Rattle.screen_pieces.specs.History.{kept_row, text_of_kept};
+ghost use Rattle.screen_pieces.specs.Text.{HasText, LacksRoom, IsNotRead, text_of_row, text_of_part, LacksRow, LacksPart, LacksCell};
+ghost use Rattle.screen_pieces.specs.History.{kept_row, text_of_kept, LacksKept};
 
 use crate::cell::{CellBytes, put_cell, put_cells, put_plain};
 use crate::modes::ModeBytes;
@@ -75,6 +75,7 @@ impl Terminal {
     pub fn put_cell(&self, row: usize, column: usize, room: &mut CellBytes) -> bool
         ensures cell { OnTrue result (HasCell row column room.new self.now) }
         ensures refused { OnFalse result (room.new ≡ room.old) }
+        ensures lacking { OnFalse result (LacksCell row column (display_of self.now)) }
     {
         if self.screen().rows() <= row || self.screen().columns() <= column {
             return false;
@@ -101,6 +102,8 @@ impl Terminal {
     pub fn put_row(&self, row: usize, room: &mut [CellBytes]) -> bool
         ensures row { OnTrue result (HasRow row room.old room.new self.now) }
         ensures refused { OnFalse result (room.new ≡ room.old) }
+        ensures lacking { OnFalse result
+            (LacksRow row (display_of self.now) ⊎ (length room.old < (display_of self.now).width)) }
     {
         if self.screen().rows() <= row || room.len() < self.screen().columns() {
             return false;
@@ -128,7 +131,7 @@ impl Terminal {
     pub fn row_text(&self, row: usize, room: &mut [u8]) -> Result<usize, usize>
         ensures text { IfOk result (HasText (text_of_row row (display_of self.now)) room.old room.new) }
         ensures refused { IfErr result
-            (λ needed. (needed ≡ 0) ⊎ LacksRoom (text_of_row row (display_of self.now)) room.old needed) }
+            (IsNotRead (LacksRow row (display_of self.now)) (text_of_row row (display_of self.now)) room.old) }
     {
         if self.screen().rows() <= row {
             return Err(0);
@@ -146,8 +149,8 @@ impl Terminal {
         room: &mut [u8],
     ) -> Result<usize, usize>
         ensures text { IfOk result (HasText (text_of_part row start end (display_of self.now)) room.old room.new) }
-        ensures refused { IfErr result
-            (λ needed. (needed ≡ 0) ⊎ LacksRoom (text_of_part row start end (display_of self.now)) room.old needed) }
+        ensures refused { IfErr result (IsNotRead (LacksPart row start end (display_of self.now))
+            (text_of_part row start end (display_of self.now)) room.old) }
     {
         if self.screen().rows() <= row || end < start || self.screen().columns() < end {
             return Err(0);
@@ -180,6 +183,8 @@ impl Terminal {
     pub fn put_history_row(&self, number: usize, room: &mut [CellBytes]) -> bool
         ensures row { OnTrue result (HasKeptRow number room.old room.new (history_of self.now)) }
         ensures refused { OnFalse result (room.new ≡ room.old) }
+        ensures lacking { OnFalse result (LacksKept number (history_of self.now)
+            ⊎ (length room.old < length (kept_row number (history_of self.now)))) }
     {
         match self.history_row(number) {
             None => false,
@@ -206,8 +211,8 @@ impl Terminal {
     /// As [`Terminal::row_text`], of a row that left.
     pub fn history_text(&self, number: usize, room: &mut [u8]) -> Result<usize, usize>
         ensures text { IfOk result (HasText (text_of_kept number (history_of self.now)) room.old room.new) }
-        ensures refused { IfErr result
-            (λ needed. (needed ≡ 0) ⊎ LacksRoom (text_of_kept number (history_of self.now)) room.old needed) }
+        ensures refused { IfErr result (IsNotRead (LacksKept number (history_of self.now))
+            (text_of_kept number (history_of self.now)) room.old) }
     {
         match self.history_row(number) {
             None => Err(0),

@@ -1,3 +1,4 @@
 pub mod SliceWriterLemmas
 pub mod FeedLemmas
 pub mod LineLemmas
+pub mod LogLemmas

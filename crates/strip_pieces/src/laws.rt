@@ -1,15 +1,19 @@
 //! The laws of texts of pieces. Each is the contract of a function that does nothing.
-ghost use Rattle.std.specs.Prelude.{◌≡◌, ◌≤◌, ◌*◌, ℕ, List, [], ◌++◌, length};
+ghost use Rattle.std.specs.Prelude.{◌≡◌, ◌≤◌, ◌*◌, ℕ, List, [], ◌∷◌, ◌++◌, length};
+ghost use Rattle.anstyle_parse.specs.Stream.Bytes.{escape_byte};
 ghost use Rattle.anstyle_parse.specs.Stream.Call.{Call};
 ghost use Rattle.anstyle_parse.specs.Stream.Calls.{AreCalls};
 ghost use Rattle.anstyle_parse.specs.Machine.AsRead.{as_read, as_read_whole};
-ghost use Rattle.ansi_strip.specs.Inert.{inert_text};
+ghost use Rattle.ansi_strip.specs.Inert.{inert_text, IsInertText};
 ghost use Rattle.ansi_strip.specs.LineFeeds.{without_returns};
 ghost use Rattle.strip_pieces.specs.Feed.{IsTextOf, IsEndOf};
 ghost use Rattle.strip_pieces.specs.Lines.{StandsForText, AreLinesOf, AreEndOf};
 
 use crate::lines::LineState;
-use ansi_strip::laws::{line_feeds, logs};
+use ansi_strip::laws::{
+    inert_clean_text, inert_cut_before_escape, inert_twice, inert_utf8, line_feeds,
+};
+use anstyle_parse::laws::{log_bounds, read_logs};
 
 /// The texts of pieces, one after another, are the text of the whole; and the text of all bytes
 /// of a stream is the inert text of the calls of what is read of them, also with what its end leads to. It is at most
@@ -26,6 +30,33 @@ pub fn texts_joined()
         → length (text ++ end) ≤ 3 * length bytes }
 {
     logs();
+}
+
+/// What `ansi2text` and the library write of a log: the inert text of what is read of it, to its end
+/// ([`Parser::advance_log`](anstyle_parse::Parser::advance_log), `end_log`). It is at most three times as long as the
+/// log. A log may be cut before any ESC byte, and its parts stripped apart, each but the last with that ESC after it.
+/// What was stripped, stripped again, is the same, and so is any inert text: also at its end nothing is added.
+pub fn logs()
+    ensures length { (log : List ℕ) (calls : List Call) → AreCalls (as_read_whole log) calls
+        → length (inert_text calls) ≤ 3 * length log }
+    ensures so_far { (log : List ℕ) (calls : List Call) → AreCalls (as_read log) calls
+        → length (inert_text calls) ≤ 3 * length log }
+    ensures parts { (before bytes : List ℕ) (first rest whole : List Call)
+        → AreCalls (as_read_whole (before ++ escape_byte ∷ [])) first
+        → AreCalls (as_read_whole (escape_byte ∷ bytes)) rest
+        → AreCalls (as_read_whole (before ++ escape_byte ∷ bytes)) whole
+        → inert_text whole ≡ inert_text first ++ inert_text rest }
+    ensures twice { (log : List ℕ) (calls again : List Call) → AreCalls (as_read_whole log) calls
+        → AreCalls (as_read_whole (inert_text calls)) again → inert_text again ≡ inert_text calls }
+    ensures clean { (text : List ℕ) (calls : List Call) → IsInertText text → AreCalls (as_read_whole text) calls
+        → inert_text calls ≡ text }
+{
+    log_bounds();
+    read_logs();
+    inert_cut_before_escape();
+    inert_twice();
+    inert_utf8();
+    inert_clean_text();
 }
 
 /// What is left of pieces of a text by a [`LineState`], one after another, and then what waits at its end, is the whole

@@ -10,7 +10,7 @@ use std::process::Abort;
 use std::test::Fail;
 use test_streams::Tape;
 
-/// What is read, and its safe text. (Many more are rows of tests/safe_rows.py.)
+/// What is read, and its safe text. (Many more are rows of tests/lib/safe_rows.py.)
 const ROWS: [(&str, &str); 15] = [
     ("a<b\t\n", "a<b\t\n"),
     ("a\r\nb\rc\x07", "a\nb<U+000D>c<U+0007>"),

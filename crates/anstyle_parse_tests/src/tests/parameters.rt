@@ -91,7 +91,7 @@ fn groups_at_the_limit(rt: HostRuntime) {
 }
 
 /// Bytes, and the Debug text of the parameters that a parser hands out. It is what parselog shows of them, as
-/// tests/expected.py has it.
+/// tests/lib/expected.py has it.
 const ROWS: [(&[u8], &str); 11] = [
     (b"\x1B[m", "[0]"),
     (b"\x1B[?25h", "[25]"),

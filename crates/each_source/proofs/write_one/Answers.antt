@@ -1,6 +1,7 @@
 -- What the performer received is written, and then its ending.
-use Rattle.std.proofs.Common.{◌≡◌, ◌++◌, [], ℕ, List, true, not, None, is_some, take, sym, ap, ◌∙◌, ap₂, subst}
+use Rattle.std.proofs.Common.{◌≡◌, ◌++◌, [], ℕ, List, true, not, None, is_some, take, sym, ap, ◌∙◌, ap₂, subst, arith, length-take}
 use Rattle.std.proofs.KnownBytes.{Consumes-trans}
+use Rattle.std.proofs.lemmas.Result.{err_from_is_err_and}
 use Rattle.anstyle_parse.specs.Io.Output.{Adds, fault_in}
 use Rattle.anstyle_parse.proofs.Written.Run.{Adds-unless_stopped, Adds-no_fault}
 use Rattle.anstyle_parse.proofs.Written.Output.{Adds-append, None-from_is_some}
@@ -48,3 +49,10 @@ returns-clause-written g c =
       clear = λ stuck. None-from_is_some (fault_in final) (faulty ∙ ap not (is_clear c.is_stuck-is_stuck.result c.is_none-is_clear.result stuck));
       added = subst (λ o. Adds sink (g.B.Begin.text c.args.begin.now given ++ g.B.Begin.ending c.args.begin.now given) o final) begun.output text;
     }
+
+pub returns-in_err-performer-clause-begun : goal.returns-in_err-performer-clause-begun
+returns-in_err-performer-clause-begun g c =
+    let given = err_from_is_err_and c.from_residual.result c.from_residual.ensures.1 in
+    let f = c.read_front-count.ensures in
+    let piece = c.read_front-count.new.piece in
+    rw given.1 (take c.read_front-count.result.0 piece, omega (arith, f.within, length-take c.read_front-count.result.0 piece), f.consumed)

@@ -1,4 +1,4 @@
-//! Rows of what a screen showed, as safe text, that were worked by hand. (More are rows of tests/safe_rows.py.)
+//! Rows of what a screen showed, as safe text, that were worked by hand. (More are rows of tests/lib/safe_rows.py.)
 use super::assert_written;
 use ansi_screen::Scrollable;
 use anstyle_parse::io::{FromRead, FromWrite, Output};

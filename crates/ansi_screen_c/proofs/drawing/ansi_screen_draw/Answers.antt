@@ -1,6 +1,8 @@
 -- What was held is drawn.
+use Rattle.screen_pieces.specs.declared.terminal.Terminal.{Terminal}
+use Rattle.screen_pieces.specs.Terminal.{display_of}
 use Rattle.screen_pieces.specs.Drawing.{drawing_of}
-use Rattle.ansi_screen_c.specs.Calls.{Holds, Reads, IsRefused}
+use Rattle.ansi_screen_c.specs.Calls.{Holds, Reads, IsRefusedOf}
 use Rattle.ansi_screen_c.proofs.ToldLemmas.{is-told, is-refused}
 use Rattle.ansi_screen_c.proofs.drawing.ansi_screen_draw.Goals as goal
 
@@ -12,6 +14,6 @@ returns-in-Some-clause-text c =
 
 pub returns-in-Some-clause-refused : goal.returns-in-Some-clause-refused
 returns-in-Some-clause-refused c =
-    is-refused (λ n was. IsRefused drawing_of c.args.room.now n was) c.draw-answer.result c.in-Some.held.value c.deref.result.now
+    is-refused (λ n was. IsRefusedOf (λ (terminal : Terminal). drawing_of (display_of terminal)) c.args.room.now n was) c.draw-answer.result c.in-Some.held.value c.deref.result.now
     c.args.screen.now.value c.in-Some.ensures.taken c.deref.ensures c.told.result c.told.new.written
     c.told.ensures.err c.draw-answer.ensures.refused

@@ -1,5 +1,5 @@
 -- What was held is read.
-use Rattle.screen_pieces.specs.History.{text_of_kept}
+use Rattle.screen_pieces.specs.History.{text_of_kept, LacksKept}
 use Rattle.ansi_screen_c.specs.Calls.{Holds, ReadsKept, IsRefusedKept}
 use Rattle.ansi_screen_c.proofs.ToldLemmas.{is-told, is-refused}
 use Rattle.ansi_screen_c.proofs.history.ansi_screen_history_text.Goals as goal
@@ -12,6 +12,6 @@ returns-in-Some-clause-text c =
 
 pub returns-in-Some-clause-refused : goal.returns-in-Some-clause-refused
 returns-in-Some-clause-refused c =
-    is-refused (λ n was. IsRefusedKept (text_of_kept c.args.number) c.args.room.now n was) c.history_text-answer.result c.in-Some.held.value c.deref.result.now
+    is-refused (λ n was. IsRefusedKept (LacksKept c.args.number) (text_of_kept c.args.number) c.args.room.now n was) c.history_text-answer.result c.in-Some.held.value c.deref.result.now
     c.args.screen.now.value c.in-Some.ensures.taken c.deref.ensures c.told.result c.told.new.written
     c.told.ensures.err c.history_text-answer.ensures.refused

@@ -1,8 +1,8 @@
 -- What was held is read.
-use Rattle.std.proofs.Common.{refl}
 use Rattle.ansi_screen.specs.Text.{text_of}
-use Rattle.screen_pieces.proofs.DrawingLemmas.{lacks-is}
-use Rattle.ansi_screen_c.specs.Calls.{Holds, Reads, IsRefused}
+use Rattle.screen_pieces.specs.declared.terminal.Terminal.{Terminal}
+use Rattle.screen_pieces.specs.Terminal.{display_of}
+use Rattle.ansi_screen_c.specs.Calls.{Holds, Reads, HasNoRoomOf}
 use Rattle.ansi_screen_c.proofs.ToldLemmas.{is-told, is-refused}
 use Rattle.ansi_screen_c.proofs.text.ansi_screen_text.Goals as goal
 
@@ -14,6 +14,6 @@ returns-in-Some-clause-text c =
 
 pub returns-in-Some-clause-refused : goal.returns-in-Some-clause-refused
 returns-in-Some-clause-refused c =
-    is-refused (λ n was. IsRefused text_of c.args.room.now n was) c.text-answer.result c.in-Some.held.value c.deref.result.now
+    is-refused (λ n was. HasNoRoomOf (λ (terminal : Terminal). text_of (display_of terminal)) c.args.room.now n was) c.text-answer.result c.in-Some.held.value c.deref.result.now
     c.args.screen.now.value c.in-Some.ensures.taken c.deref.ensures c.told.result c.told.new.written
-    c.told.ensures.err (lacks-is c.text-answer.result _ _ c.args.room.now refl c.text-answer.ensures.refused)
+    c.told.ensures.err c.text-answer.ensures.refused

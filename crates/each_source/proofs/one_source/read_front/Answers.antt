@@ -1,5 +1,5 @@
 -- Some bytes more are read.
-use Rattle.std.proofs.Common.{sym, subst, arith}
+use Rattle.std.proofs.Common.{◌≡◌, true, false, take, ap, sym, ◌∙◌, subst, arith}
 use Rattle.std.specs.Io.KnownBytes.{Consumes}
 use Rattle.std.proofs.KnownBytes.{Consumes-trans}
 use Rattle.each_source.proofs.ReadLemmas.{length-put, front-more}
@@ -12,6 +12,11 @@ count-preserved g c =
     let more = front-more 4096 c.count.count c.count.piece c.read.new.into before.room before.within c.in-Some.more in
     record {
       within = omega (arith, c.in-Some.ensures.within, long, before.room, before.within);
+      none = λ all.
+          absurd (let clash : true ≡ false =
+          sym all
+          ∙ (ap (λ n. g.B.Begin.enough c.args.begin.now (take n c.count.piece)) (sym (before.none all))
+          ∙ (sym c.is_enough.ensures.enough ∙ c.count-test.true)) in cc);
       room = length-put 4096 c.count.count c.count.piece c.read.new.into before.room before.within (omega (arith, long, before.room));
       consumed = subst (Consumes (g.R.Source.remaining c.args.reader.now) (g.R.Source.remaining c.read.new.self)) (sym more)
           (Consumes-trans _ _ _ _ _ before.consumed c.in-Some.ensures.passed);

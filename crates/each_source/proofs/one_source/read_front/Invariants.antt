@@ -1,11 +1,12 @@
 -- So many bytes of the front are read.
-use Rattle.std.proofs.Common.{◌≡◌, ◌≤◌, ◌-◌, length, take}
+use Rattle.std.proofs.Common.{◌≡◌, ◌≤◌, ◌-◌, true, [], length, take}
 use Rattle.std.specs.Io.KnownBytes.{Consumes}
 use Rattle.each_source.proofs.one_source.read_front.Given as goal
 
 abbrev pub invariant-count : goal.invariant-count
 invariant-count g l = record {
   within : l.count ≤ 4096;
+  none : g.B.Begin.enough l.fn.begin [] ≡ true → l.count ≡ 0;
   room : length l.piece ≡ 4096;
   consumed : Consumes (g.R.Source.remaining l.initial.reader) (g.R.Source.remaining l.reader) (take l.count l.piece);
 }

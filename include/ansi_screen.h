@@ -170,8 +170,8 @@ bool ansi_screen_cell(ansi_screen *screen, size_t row, size_t column, ansi_cell 
 bool ansi_screen_row(ansi_screen *screen, size_t row, ansi_cell *cells, size_t count);
 
 /* Writes which cells of a row, counted from 0, can have changed since ansi_screen_forget was called: those of the columns from
- * `first` up to `past`, which is not among them; where none can have, both are the same. They are those from the first to the
- * last one that was written, and one on each side. Before ansi_screen_forget is called all can have; in a copy
+ * `first` up to `past`, which is not among them; where none can have, both are the same. Each that has changed is among them:
+ * mostly they are those from the first to the last one that was written, and one on each side. Before ansi_screen_forget is called all can have; in a copy
  * (ansi_screen_copy) those since it was made. The cursor and modes do not count. Answers false where there is no such row. */
 bool ansi_screen_changed(ansi_screen *screen, size_t row, size_t *first, size_t *past);
 

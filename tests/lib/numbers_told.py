@@ -72,12 +72,12 @@ PHRASES = {
         "the cells of a row, counted from {FIRST}", "which cells of a row, counted from {FIRST}", "or column, and written is 0", ". a row, counted from {FIRST}",
         "has bytes from {LOWEST} to {HIGHEST} alone", "the last {LINKS} links that began are kept", "it answers true, and written is 0", "answer false, and written is 0",
         "answers false, and written is 0, where they have different sizes", "is {ANY_STYLING} for light and dark pages, {LIGHT} for light ones, {DARK} for dark ones, and {CLASSES} for classes",
-        "where ed 2 or ris", "the oldest has the number {FIRST}, and the one that left last kept - 1",
+        "where ed 2, ed 0 at its first cell or ris", "the oldest has the number {FIRST}, and the one that left last kept - 1",
     ],
     "man/ansi_screen.3": [
         *OWED, "a character that is broken is u+fffd", "from {MIN_COLUMNS} to {MAX_COLUMNS}, and rows, from {MIN_ROWS} to {MAX_ROWS}", "the rest of them is 0", "rows and columns are counted from {FIRST}",
         "has bytes from {LOWEST} to {HIGHEST} alone", "the last {LINKS} links that began are kept", "it answers true, and written is 0",
-        "is {ANY_STYLING} for light and dark pages, {LIGHT} for light ones, {DARK} for dark ones, and {CLASSES} for classes", "any other number is {ANY_STYLING}", "where ed 2 or ris",
+        "is {ANY_STYLING} for light and dark pages, {LIGHT} for light ones, {DARK} for dark ones, and {CLASSES} for classes", "any other number is {ANY_STYLING}", "where ed 2, ed 0 at its first cell or ris",
         "the oldest has the number {FIRST}", "ansi_cell has, in {ansi_cell} bytes", "marks[{MOST_MARKS}]", "of its link (osc 8)", "takes; {NO_LINK} for none", "mark_count\" 0, 1 or {MOST_MARKS}.",
         "goes_on\" {GOES_ON} in the last cell", "one line; else 0", "ansi_style has, in {ansi_style} bytes", "on are {ON} or {OFF}", "the first is 0 to 7: black", "number of one of xterm's 256",
         *('%s" sgr {%s}' % (name, name) for name in screen_cells.ATTRIBUTES), "ansi_color has, in {ansi_color} bytes", "values[3]", "each {ON} where it is on, else {OFF}",
@@ -98,7 +98,7 @@ PHRASES = {
     "man/ansi2text.1": [
         *STATUSES, *OF_SHOWN, *CUT_OFF, "all other control characters from 00 to 1f", "del (7f) and the characters " + C1, "is broken becomes u+fffd", "each byte a0 to ff that belongs to no character",
         "also u+007f to u+009f", "as <u+202e>: its number in base 16", "written as <u+003c>", "(sgr {hidden}, until 28 or 0)", "u+200d between two emoji", "u+200c after a virama", "u+200b between letters",
-        "u+fe0e and u+fe0f after an emoji", "erased, by ed 2 (as", "anew by ed 2 leaves", "table 3-7",
+        "u+fe0e and u+fe0f after an emoji", "erased, by ed 2 or by ed 0 at its first cell (as", "table 3-7",
     ],
     "man/parselog.1": [
         STATUSES[0], "print u+0041 a printed character", "execute 0a a control", "csi_dispatch [1;31] - false 6d", "esc_dispatch - false 5c", "osc_dispatch false 30 78", "written. {FAILED} the file",

@@ -15,14 +15,14 @@ use Rattle.anstyle_parse.proofs.Characters.Scalars.{is_character-low}
 use Rattle.anstyle_parse.proofs.Lawful.Calls.{lawful}
 use Rattle.anstyle_parse.proofs.Canonical.Bytes.{lawful_exactly}
 use Rattle.ansi_html.specs.Links.{has_scheme}
-use Rattle.html_urls.specs.Addresses.{is_between, is_uri_byte, is_scheme_byte, is_whole_byte, begins_scheme, max_held, goes_on, address_of, address_length, behind_address, is_address}
-use Rattle.html_urls.specs.Linked.{Standing, standing, at_start, link_command, prints, released, released_as, is_link, begins, handed, handed_character, held_character, standing_after, handed_from, left_from, linked}
+use Rattle.html_urls.specs.Addresses.{is_between, is_uri_byte, is_scheme_byte, is_whole_byte, begins_scheme, max_held, goes_on, address_of, address_length, behind_address, is_address, is_link}
+use Rattle.html_urls.specs.Linked.{Standing, standing, at_start, link_command, prints, released, released_as, begins, handed, handed_character, held_character, standing_after, handed_from, left_from, linked}
 use Rattle.html_urls.proofs.SchemeLemmas.{begins-each}
 use Rattle.html_urls.proofs.ColonLemmas.{released-clear}
 
 -- a byte of a URI is visible
 module _ (b : ℕ) where
-  abbrev IsVisible : Type 0
+  abbrev pub IsVisible : Type 0
   IsVisible = (0x21 ≤ b) × (b ≤ 0x7E)
 
   one : (k : ℕ) → 0x21 ≤ k → k ≤ 0x7E → nat_eq b k ≡ true → IsVisible
@@ -38,7 +38,7 @@ module _ (b : ℕ) where
   either : (s t : Bool) → (s ≡ true → IsVisible) → (t ≡ true → IsVisible) → (s || t) ≡ true → IsVisible
   either s t left right is = ⊎_elim left right (or_cases s t is)
 
-  uri_byte-visible : is_uri_byte b ≡ true → IsVisible
+  pub uri_byte-visible : is_uri_byte b ≡ true → IsVisible
   uri_byte-visible =
       either _ _ (one 0x21 (omega arith) (omega arith))
       (either _ _ (some 0x23 0x3B (omega arith) (omega arith))
@@ -109,7 +109,7 @@ released-lawful text calls each more = by (is_link text) refl
     by false is = prints-lawful text calls each more
 
 -- What is held are bytes of a URI.
-each-begins : (text : List ℕ) → begins_scheme text ≡ true → EachIs is_uri_byte text
+pub each-begins : (text : List ℕ) → begins_scheme text ≡ true → EachIs is_uri_byte text
 each-begins text is =
     begins-each is_uri_byte
     (refl, (refl, (refl, (refl, (refl, (refl, (refl, (refl, tt))))))))
@@ -117,7 +117,7 @@ each-begins text is =
     (refl, (refl, (refl, (refl, (refl, (refl, (refl, tt)))))))
     text is
 
-goes_on-uri : (text : List ℕ) (c : ℕ) → goes_on text c ≡ true → is_uri_byte c ≡ true
+pub goes_on-uri : (text : List ℕ) (c : ℕ) → goes_on text c ≡ true → is_uri_byte c ≡ true
 goes_on-uri [] c is = absurd (false≢true is)
 goes_on-uri (first ∷ text) c is =
     by (has_scheme (first ∷ text)) (and_parts (nat_lt (length (first ∷ text)) max_held) (if has_scheme (first ∷ text) then is_uri_byte c else begins_scheme ((first ∷ text) ++ c ∷ [])) is).1

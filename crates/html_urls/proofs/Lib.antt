@@ -6,3 +6,7 @@ pub mod TextLemmas
 pub mod ColonLemmas
 pub mod ClearLemmas
 pub mod LawfulLemmas
+pub mod FrontLemmas
+pub mod FoundLemmas
+pub mod OnlyLemmas
+pub mod HrefLemmas

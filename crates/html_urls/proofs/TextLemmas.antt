@@ -6,13 +6,13 @@ use Rattle.std.proofs.lemmas.List.{map-append}
 use Rattle.std.proofs.lemmas.Grind.{flat_map-append}
 use Rattle.anstyle_parse.specs.Stream.Call.{Call, print, execute, hook, put, unhook, osc_dispatch, csi_dispatch, esc_dispatch}
 use Rattle.ansi_strip.specs.Strip.{stripped_call, stripped}
-use Rattle.html_urls.specs.Addresses.{is_scheme_byte, goes_on, address_of, behind_address, address_length}
-use Rattle.html_urls.specs.Linked.{Standing, standing, at_start, link_command, prints, released_as, is_link, released, begins, handed, standing_after, handed_from, left_from, linked}
+use Rattle.html_urls.specs.Addresses.{is_scheme_byte, goes_on, address_of, behind_address, address_length, is_link}
+use Rattle.html_urls.specs.Linked.{Standing, standing, at_start, link_command, prints, released_as, released, begins, handed, standing_after, handed_from, left_from, linked}
 
 stripped-append : (calls more : List Call) → stripped (calls ++ more) ≡ stripped calls ++ stripped more
 stripped-append calls more = flat_map-append stripped_call calls more
 
-printed-append : (text more : List ℕ) → stripped (prints (text ++ more)) ≡ stripped (prints text) ++ stripped (prints more)
+pub printed-append : (text more : List ℕ) → stripped (prints (text ++ more)) ≡ stripped (prints text) ++ stripped (prints more)
 printed-append text more = ap stripped (map-append print text more) ∙ stripped-append (prints text) (prints more)
 
 -- what was held is the same text, as a link or not

@@ -2,9 +2,10 @@
 --
 -- Sources: RFC 3986, 2 (the characters of a URI) and 3.1 (those of a scheme); GitHub Flavored Markdown, 6.9
 -- ("Autolinks (extension)"), for what stands after an address: marks at its end, and brackets that it does not open.
-use Rattle.std.specs.Prelude.{ℕ, zero, suc, Bool, false, not, ◌||◌, ◌&&◌, nat_le, nat_lt, nat_eq, ◌==◌, List, [], ◌∷◌, ◌++◌, codes, length, take, drop, count_by, if◌then◌else◌}
+use Rattle.std.specs.Prelude.{◌≡◌, ◌<◌, ◌≤◌, ℕ, zero, suc, Bool, true, false, not, ◌||◌, ◌&&◌, ◌⊎◌, nat_le, nat_lt, nat_eq, ◌==◌, List, [], ◌∷◌, ◌++◌, codes, length, take, drop, count_by, ⊤, if◌then◌else◌}
 use Rattle.std.specs.List.{list_all, starts_with}
 use Rattle.anstyle_parse.specs.Stream.Bytes.{semicolon}
+use Rattle.anstyle_parse.specs.Stream.Items.{EachIs}
 use Rattle.ansi_html.specs.Links.{has_scheme}
 
 abbrev pub is_between : (first last : ℕ) → ℕ → Bool
@@ -83,3 +84,37 @@ is_whole_byte b = is_uri_byte b && not (b == semicolon)
 
 unfoldable pub is_address : (text : List ℕ) → Bool
 is_address text = has_scheme text && (not (begins_scheme text) && list_all is_whole_byte text)
+
+-- Where an address may begin in a text: where a scheme stands, and right before it no character of one.
+abbrev pub may_begin : (joins : Bool) → (text : List ℕ) → Bool
+may_begin joins text = not joins && has_scheme text
+
+-- whether a character of a scheme stands at the end of a text, where one stood before it or not
+abbrev pub joins_after : (joins : Bool) → (text : List ℕ) → Bool
+joins_after joins [] = joins
+joins_after joins (b ∷ text) = joins_after (is_scheme_byte b) text
+
+-- a text that begins with no character of a URI
+abbrev pub IsOffUri : List ℕ → Type 0
+IsOffUri [] = ⊤
+IsOffUri (b ∷ text) = is_uri_byte b ≡ false
+
+-- How far it may go: a run are all the characters of a URI with which a text begins; of more than 1,023 it is the first
+-- so many, and then no address.
+pub record IsRun (text run : List ℕ) : Type 0 where
+  pub behind : List ℕ
+  pub joined : text ≡ run ++ behind
+  pub each : EachIs is_uri_byte run
+  pub most : length run ≤ max_held
+  pub ends : (length run ≡ max_held) ⊎ IsOffUri behind
+
+-- whether a run is a link: it was not cut, and what it has is an address
+abbrev pub is_link : (run : List ℕ) → Bool
+is_link run = nat_lt (length run) max_held && is_address (address_of run)
+
+-- What of a run is the address: the longest front of it that does not end with a byte that stands after an address.
+pub record IsAddressOf (run address : List ℕ) : Type 0 where
+  pub behind : List ℕ
+  pub joined : run ≡ address ++ behind
+  pub ends : (address ≡ []) ⊎ (ends_behind address ≡ false)
+  pub longest : (n : ℕ) → length address < n → n ≤ length run → ends_behind (take n run) ≡ true

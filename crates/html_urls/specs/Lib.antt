@@ -1,5 +1,6 @@
 pub mod Addresses
 pub mod Linked
+pub mod Found
 pub mod Colon
 pub mod Html
 pub mod Held

@@ -1,8 +1,8 @@
 -- The calls of a stream in which addresses in its text are links (OSC 8).
-use Rattle.std.specs.Prelude.{ℕ, Bool, true, false, not, ◌&&◌, nat_lt, List, [], ◌∷◌, ◌++◌, codes, length, map, if◌then◌else◌}
+use Rattle.std.specs.Prelude.{ℕ, Bool, true, false, not, ◌&&◌, List, [], ◌∷◌, ◌++◌, codes, map, if◌then◌else◌}
 use Rattle.anstyle_parse.specs.Stream.Call.{Call, print, osc_dispatch}
 use Rattle.ansi_html.specs.Links.{is_none, is_link_command, uri_of}
-use Rattle.html_urls.specs.Addresses.{is_scheme_byte, begins_scheme, max_held, goes_on, address_of, behind_address, is_address}
+use Rattle.html_urls.specs.Addresses.{is_scheme_byte, begins_scheme, goes_on, address_of, behind_address, is_link}
 
 -- Where a stream stands: what may become an address is held back; whether the last character is one of a scheme; and
 -- whether a link of the stream's own is open, whose text stays as it is.
@@ -29,9 +29,6 @@ abbrev pub released_as : (is_link : Bool) → (address behind text : List ℕ) �
 released_as true address behind text =
     link_command address ∷ prints address ++ (link_command [] ∷ prints behind)
 released_as false address behind text = prints text
-
-abbrev pub is_link : (text : List ℕ) → Bool
-is_link text = nat_lt (length text) max_held && is_address (address_of text)
 
 abbrev pub released : (text : List ℕ) → List Call
 released text = released_as (is_link text) (address_of text) (behind_address text) text

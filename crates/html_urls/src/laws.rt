@@ -1,5 +1,6 @@
 //! Laws of streams whose addresses are links. Each is the contract of a function that does nothing.
-ghost use Rattle.std.specs.Prelude.{◌≡◌, ◌++◌, ℕ, Bool, List};
+ghost use Rattle.std.specs.Prelude.{◌≡◌, ◌++◌, ℕ, Bool, List, [], map};
+ghost use Rattle.std.specs.List.{flat_map};
 ghost use Rattle.anstyle_parse.specs.Stream.Call.{Call};
 ghost use Rattle.anstyle_parse.specs.Stream.Calls.{AreCalls};
 ghost use Rattle.anstyle_parse.specs.Laws.Lawful.{AreMade};
@@ -7,8 +8,11 @@ ghost use Rattle.ansi_html.specs.declared.scheme.Styling.{Styling};
 ghost use Rattle.ansi_html.specs.Html.{html};
 ghost use Rattle.ansi_html.specs.Lines.{lined_html};
 ghost use Rattle.ansi_html.specs.Blocks.{blocked_html};
+ghost use Rattle.ansi_html.specs.Reader.{href_of, read};
 ghost use Rattle.ansi_strip.specs.Strip.{stripped};
+ghost use Rattle.html_urls.specs.Addresses.{address_of, IsAddressOf};
 ghost use Rattle.html_urls.specs.Linked.{linked};
+ghost use Rattle.html_urls.specs.Found.{Part, AreParts, with_link, hrefs};
 ghost use Rattle.html_urls.specs.Html.{urls_text, urls_ending, lined_urls_text, lined_urls_ending, blocked_urls_text, blocked_urls_ending};
 
 /// The links change no text: what stripping leaves of the calls with these links is what it leaves of the stream.
@@ -32,4 +36,29 @@ pub fn html_of_links()
     ensures blocked { (numbered : Bool) (styling : Styling) (calls : List Call)
         → blocked_urls_text numbered styling calls ++ blocked_urls_ending numbered styling calls
         ≡ blocked_html numbered styling (linked calls) }
+{}
+
+/// The addresses in the text of a stream are found, and each is a link to the very text that it stands on; nothing else
+/// becomes one.
+pub fn addresses()
+    // A stream has parts in which each address is found; the calls of these parts are what is written as HTML.
+    ensures found { (calls : List Call)
+        → (parts : List Part) × AreParts calls parts × (linked calls ≡ flat_map with_link parts) }
+
+    // The address of a run is the longest front of it that ends well.
+    ensures address { (run : List ℕ) → IsAddressOf run (address_of run) }
+
+    // It has no others: what an address is does not depend on who looks for it.
+    ensures only { (calls : List Call) (one other : List Part) → AreParts calls one → AreParts calls other
+        → one ≡ other }
+
+    // A reader sees each byte of the text of an address in a link to that text, and each other one in the link that the
+    // stream has there, or in none.
+    ensures links { (styling : Styling) (calls : List Call) (parts : List Part) → AreParts calls parts
+        → map href_of (read (html styling (linked calls))) ≡ hrefs [] parts }
+    ensures lined { (styling : Styling) (calls : List Call) (parts : List Part) → AreParts calls parts
+        → map href_of (read (lined_html styling (linked calls))) ≡ hrefs [] parts }
+    ensures blocked { (numbered : Bool) (styling : Styling) (calls : List Call) (parts : List Part)
+        → AreParts calls parts
+        → map href_of (read (blocked_html numbered styling (linked calls))) ≡ hrefs [] parts }
 {}

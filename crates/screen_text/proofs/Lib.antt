@@ -13,3 +13,4 @@ pub mod TwiceLemmas
 pub mod BoundLemmas
 pub mod PageLemmas
 mod RecordingLemmas
+mod SizeTextLemmas

@@ -2,13 +2,13 @@
 --
 -- Source: util-linux, term-utils/script.c, `log_start`: the first line ends with ` COLUMNS="%d" LINES="%d"]` where
 -- script stands on a terminal, after words in the user's language, and else it says no size.
-use Rattle.std.specs.Prelude.{◌≡◌, ℕ, ◌+◌, ◌-◌, ◌*◌, ◌==◌, ◌&&◌, ◌||◌, nat_le, nat_eq, Bool, true, List, [], ◌∷◌, length, take, drop, codes, Option, None, Some, if◌then◌else◌}
+use Rattle.std.specs.Prelude.{◌≡◌, ℕ, ◌+◌, ◌-◌, ◌*◌, ◌==◌, ◌&&◌, ◌||◌, not, nat_le, nat_eq, Bool, true, List, [], ◌∷◌, ◌++◌, length, take, drop, codes, Option, None, Some, ⊤, if◌then◌else◌}
 use Rattle.std.specs.List.{starts_with, list_any}
 use Rattle.std.specs.Option.{option_or, unwrap_or}
 use Rattle.ansi_screen.specs.declared.size.Size.{Size}
 use Rattle.ansi_screen.specs.After.{State, new_state}
 use Rattle.ansi_screen.specs.Display.{most_columns}
-use Rattle.ansi_screen.specs.Size.{size_if_taken, IsTaken}
+use Rattle.ansi_screen.specs.Size.{size_if_taken, IsNumber, IsTaken}
 use Rattle.screen_text.specs.declared.recording.ShownSize.{ShownSize}
 use Rattle.screen_text.specs.declared.recording.ShownSize.TheVariants.{Recorded, Fixed}
 
@@ -88,3 +88,23 @@ screen_for shown read = new_state (size_for shown read).columns (size_for shown 
 -- A screen can have the size, where one is given.
 abbrev pub CanBeShown : ShownSize → Type 0
 CanBeShown shown = (size : Size) → shown ≡ Fixed size → IsTaken size
+
+-- What is said of it in the words of script.c: a line says a size where it ends with these numbers, in decimal.
+abbrev pub size_text : (columns rows : List ℕ) → List ℕ
+size_text columns rows = codes " COLUMNS=\"" ++ (columns ++ (codes "\" LINES=\"" ++ (rows ++ codes "\"]")))
+
+pub record SaysSize (line : List ℕ) (size : Size) : Type 0 where
+  pub words : List ℕ
+  pub columns : List ℕ
+  pub rows : List ℕ
+  pub whole : line ≡ words ++ size_text columns rows
+  pub columns_are : IsNumber columns size.columns
+  pub rows_are : IsNumber rows size.rows
+
+-- a byte of a line, and what comes after one
+abbrev pub is_of_line : ℕ → Bool
+is_of_line b = not (b == 0x0A)
+
+abbrev pub IsAtLineEnd : List ℕ → Type 0
+IsAtLineEnd [] = ⊤
+IsAtLineEnd (b ∷ bytes) = b ≡ 0x0A

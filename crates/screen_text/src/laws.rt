@@ -3,12 +3,17 @@ ghost use Rattle.std.specs.Prelude.{◌≡◌, ◌≢◌, ◌≤◌, ◌+◌, �
 ghost use Rattle.std.specs.List.{AllByRecursion, flat_map};
 ghost use Rattle.anstyle_parse.specs.Stream.Call.{Call};
 ghost use Rattle.anstyle_parse.specs.Stream.Calls.{AreCalls};
+ghost use Rattle.anstyle_parse.specs.Stream.Items.{EachIs};
 ghost use Rattle.ansi_strip.specs.Strip.{IsClean, stripped};
 ghost use Rattle.ansi_screen.specs.Display.{Display};
 ghost use Rattle.ansi_screen.specs.After.{State, new_state, after_all, Shows};
 ghost use Rattle.ansi_screen.specs.Reachable.{IsScreen};
 ghost use Rattle.ansi_screen.specs.Laws.{carriage_return, line_feed, erase_rest, printing, text_columns, lines_text, FitsIn};
 ghost use Rattle.ansi_screen.specs.Text.{text_of};
+ghost use Rattle.ansi_screen.specs.declared.size.Size.{Size};
+ghost use Rattle.ansi_screen.specs.Size.{IsTaken};
+ghost use Rattle.screen_text.specs.declared.recording.ShownSize.TheVariants.{Recorded};
+ghost use Rattle.screen_text.specs.Recording.{most_front, of_a_log, size_for, SaysSize, is_of_line, IsAtLineEnd};
 ghost use Rattle.screen_text.specs.Shown.{given_all, shown_text};
 ghost use Rattle.screen_text.specs.Laws.{most_cell_bytes, erase_line, IsEnded, IsPlain, ArePlain, LastIsNotEmpty, HasEmptyEnd, HasNoBlankEnd, lines_bytes, recorded_bytes, empty_lines};
 
@@ -99,4 +104,14 @@ pub fn bound()
     ensures { (columns rows : ℕ) (bytes : List ℕ) (calls : List Call) → AreCalls bytes calls
         → length (shown_text (new_state columns rows) calls)
         ≤ (length bytes + 1) * rows * (most_cell_bytes * columns + 1) }
+{}
+
+/// The size of a recording is the one that its first line says, as script(1) writes it: ` COLUMNS="120" LINES="40"]` at
+/// its end, where a screen can have that size and the line has at most 4,096 bytes. Where it says none, it is that of a
+/// log.
+pub fn recorded_size()
+    ensures said { (line rest : List ℕ) (size : Size) → EachIs is_of_line line → IsAtLineEnd rest
+        → length line ≤ most_front → SaysSize line size → IsTaken size → size_for Recorded (line ++ rest) ≡ size }
+    ensures unsaid { (line rest : List ℕ) → EachIs is_of_line line → IsAtLineEnd rest → length line ≤ most_front
+        → ((size : Size) → SaysSize line size → IsTaken size → ⊥) → size_for Recorded (line ++ rest) ≡ of_a_log }
 {}

@@ -214,6 +214,8 @@ fn names_of_the_laws(rt: HostRuntime) {
     calls_of_bytes();
     replay();
     read_logs();
+    anstyle_parse::laws::items_of_logs();
+    anstyle_parse::laws::log_bounds();
     equal_texts();
     canonical_again();
     bounds();
@@ -229,6 +231,8 @@ fn names_of_the_laws(rt: HostRuntime) {
     same_text();
     html_of_links();
     linked_stream();
+    html_urls::laws::addresses();
+    ansi_html::laws::log_length();
     default_variants();
     assert_eq!(rt; state_as_number(State::Anywhere), 0);
     assert_eq!(rt; action_as_number(Action::Nop), 0);
@@ -253,6 +257,7 @@ fn names_of_the_laws(rt: HostRuntime) {
     assert_eq!(rt; ansi_style::laws::hue_as_number(Hue::Black), 0);
     stream_state::laws::states();
     strip_pieces::laws::texts_joined();
+    strip_pieces::laws::logs();
     stream_state::laws::equality();
     stream_state::laws::clones();
 }

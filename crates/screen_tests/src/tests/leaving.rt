@@ -9,7 +9,7 @@ use ansi_style::Style;
 use anstyle_parse::Perform;
 use anstyle_parse::io::{FromRead, FromWrite, Output, write_calls_by};
 use screen_text::laws::{
-    bound, clean, lines, plain_screen, plain_text, returned, rewritten, shown_twice,
+    bound, clean, lines, plain_screen, plain_text, recorded_size, returned, rewritten, shown_twice,
 };
 use screen_text::{NoSize, SHOWN, ShownSize, ShownWriter, TextRows, screen_size, write_shown};
 use std::alloc::{AllocError, Global};
@@ -220,6 +220,7 @@ fn laws(_rt: HostRuntime) {
     returned();
     rewritten();
     bound();
+    recorded_size();
 }
 
 // By hand: what came before counts as written.

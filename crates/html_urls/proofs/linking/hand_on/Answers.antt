@@ -2,8 +2,8 @@
 use Rattle.std.proofs.Common.{◌≡◌, ℕ, Bool, true, List, length, sym, ap, ◌∙◌, subst}
 use Rattle.std.proofs.lemmas.Bool.{lt-ltb, and_from}
 use Rattle.std.specs.Prelude.{nat_lt}
-use Rattle.html_urls.specs.Addresses.{is_address, address_of, behind_address, max_held}
-use Rattle.html_urls.specs.Linked.{is_link, released_as}
+use Rattle.html_urls.specs.Addresses.{is_address, address_of, behind_address, max_held, is_link}
+use Rattle.html_urls.specs.Linked.{released_as}
 use Rattle.html_urls.proofs.LinkerLemmas.{received-link}
 use Rattle.html_urls.proofs.linking.hand_on.Goals as goal
 

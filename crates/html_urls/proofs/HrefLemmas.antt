@@ -1,0 +1,180 @@
+-- What a reader sees as links: in an address its own text, and elsewhere the link of the stream.
+use Rattle.std.proofs.Common.{◌≡◌, ◌<◌, ℕ, Bool, true, false, ◌&&◌, List, [], ◌∷◌, ◌++◌, codes, length, map, refl, sym, ap, ap₂, ◌∙◌, append_assoc, take-append-drop, length-append, length-take, arith, eqb-true}
+use Rattle.std.specs.Prelude.{not, nat_le, nat_lt, ◌==◌, if◌then◌else◌, encode_utf8}
+use Rattle.std.specs.List.{flat_map, list_all, concat}
+use Rattle.std.proofs.lemmas.Bool.{and_parts, and_from, not-false, lt-ltb, ltb-true, le-leb}
+use Rattle.std.proofs.lemmas.List.{map-append, nil_from_length}
+use Rattle.anstyle_parse.specs.Stream.Arguments.{max_osc_bytes, max_osc_parts}
+use Rattle.anstyle_parse.specs.Stream.Bytes.{semicolon}
+use Rattle.anstyle_parse.specs.Stream.Call.{Call, print, execute, hook, put, unhook, osc_dispatch, csi_dispatch, esc_dispatch}
+use Rattle.ansi_strip.specs.Strip.{stripped_call, stripped}
+use Rattle.ansi_html.specs.declared.scheme.Styling.{Styling}
+use Rattle.ansi_html.specs.declared.scheme.Styling.TheVariants.{Inline, Classes}
+use Rattle.ansi_html.specs.Links.{has_scheme, is_visible, is_linkable, is_none, is_link_command, is_whole, uri_of, link_of, link_after}
+use Rattle.ansi_html.specs.Html.{Element, element, no_element, element_value, element_after, html}
+use Rattle.ansi_html.specs.Lines.{lined_html}
+use Rattle.ansi_html.specs.Blocks.{blocked_html}
+use Rattle.ansi_html.specs.Reader.{Shown, href_of, under, attributes_by, attributes_of, read, shown_from}
+use Rattle.ansi_html.proofs.ReadLemmas.{read-html}
+use Rattle.ansi_html.proofs.LineLemmas.{read-lined_html}
+use Rattle.ansi_html.proofs.BlockLemmas.{read-blocked_html}
+use Rattle.html_urls.specs.Addresses.{is_uri_byte, is_whole_byte, begins_scheme, max_held, address_of, address_length, behind_address, is_address, joins_after, is_link}
+use Rattle.html_urls.specs.Linked.{link_command, prints, released, released_as, linked_after, linked}
+use Rattle.html_urls.specs.Found.{Part, as_is, in_run, joins_call, AreFound, AreParts, with_link, hrefs_of, hrefs}
+use Rattle.html_urls.proofs.LawfulLemmas.{uri_byte-visible}
+use Rattle.html_urls.proofs.TextLemmas.{printed-append}
+use Rattle.html_urls.proofs.FoundLemmas.{found-linked}
+use Rattle.html_urls.proofs.OnlyLemmas.{parts-only}
+
+-- the link under which bytes stand
+href-by : (styling : Styling) (value link : List ℕ) → (attributes_by styling value link).href ≡ link
+href-by (Inline scheme) value link = refl
+href-by Classes value link = refl
+
+hrefs-under : (styling : Styling) (it : Element) (bytes : List ℕ) → map href_of (map (under (attributes_of styling it)) bytes) ≡ map (λ b. it.link) bytes
+hrefs-under styling it [] = refl
+hrefs-under styling it (b ∷ bytes) = ap₂ (λ (l : List ℕ) (more : List (List ℕ)). l ∷ more) (href-by styling (element_value styling it) it.link) (hrefs-under styling it bytes)
+
+abbrev none_at : ℕ → List ℕ
+none_at b = []
+
+abbrev unlinked : List ℕ → List (List ℕ)
+unlinked bytes = map none_at bytes
+
+-- of text that is printed, and then of calls
+seen-prints : (styling : Styling) (it : Element) (text : List ℕ) (more : List Call)
+    → map href_of (shown_from styling it (prints text ++ more)) ≡ hrefs_of it.link text ++ map href_of (shown_from styling it more)
+seen-prints styling it [] more = refl
+seen-prints styling it (c ∷ text) more =
+    let here : List Shown = map (under (attributes_of styling it)) (encode_utf8 c) in
+    let rest : List (List ℕ) = map href_of (shown_from styling it more) in
+    let own : ℕ → List ℕ = λ b. it.link in
+    map-append href_of here (shown_from styling it (prints text ++ more))
+    ∙ ap₂ (λ (l m : List (List ℕ)). l ++ m) (hrefs-under styling it (encode_utf8 c)) (seen-prints styling it text more)
+    ∙ sym (append_assoc (map own (encode_utf8 c)) (hrefs_of it.link text) rest)
+    ∙ ap (λ (l : List (List ℕ)). l ++ rest) (sym (map-append own (encode_utf8 c) (stripped (prints text))))
+
+-- the command of an address selects it, and the one of none ends it
+each-visible : (bytes : List ℕ) → list_all is_whole_byte bytes ≡ true → list_all is_visible bytes ≡ true
+each-visible [] are = refl
+each-visible (b ∷ bytes) are =
+    let parts = and_parts (is_whole_byte b) (list_all is_whole_byte bytes) are in
+    let visible = uri_byte-visible b (and_parts (is_uri_byte b) (not (b == semicolon)) parts.0).0 in
+    and_from (is_visible b) (list_all is_visible bytes) (and_from (nat_le 0x21 b) (nat_le b 0x7E) (le-leb 0x21 b visible.0) (le-leb b 0x7E visible.1)) (each-visible bytes parts.1)
+
+fits : (address : List ℕ) → length address < max_held → length (concat (codes "8" ∷ [] ∷ address ∷ [])) < max_osc_bytes
+fits address short = omega (arith, short, length-append address [])
+
+link-selected : (run : List ℕ) → is_link run ≡ true → link_of (codes "8" ∷ [] ∷ address_of run ∷ []) ≡ address_of run
+unfolding link_of is_linkable is_address
+link-selected run is =
+    let address = address_of run in
+    let parts = and_parts (nat_lt (length run) max_held) (is_address address) is in
+    let short = ltb-true (length run) max_held parts.0 in
+    let scheme = and_parts (has_scheme address) (not (begins_scheme address) && list_all is_whole_byte address) parts.1 in
+    let whole = and_parts (not (begins_scheme address)) (list_all is_whole_byte address) scheme.1 in
+    let command = codes "8" ∷ [] ∷ address ∷ [] in
+    let all_of : length address < max_held = omega (arith, short, length-take (address_length (length run) run) run) in
+    ap (λ (t : Bool). if t then address else [])
+    (and_from (is_whole command) (is_linkable address)
+    (and_from (nat_lt 3 max_osc_parts) (nat_lt (length (concat command)) max_osc_bytes) refl (lt-ltb (length (concat command)) max_osc_bytes (fits address all_of)))
+    (and_from (has_scheme address) (list_all is_visible address) scheme.0 (each-visible address whole.1)))
+
+none-either : (t : Bool) (link : List ℕ) → link ≡ [] → (if t then link else []) ≡ []
+none-either true link none = none
+none-either false link none = refl
+
+link-ended : link_of (codes "8" ∷ [] ∷ [] ∷ []) ≡ []
+unfolding link_of
+link-ended = none-either (is_whole (codes "8" ∷ [] ∷ [] ∷ []) && is_linkable []) [] refl
+
+-- where no link of the stream's own is open, it has none
+unlinked-osc : (parts : List (List ℕ)) (is_linked : Bool) (link : List ℕ) → (is_linked ≡ false → link ≡ [])
+    → (if is_link_command parts then not (is_none (uri_of parts)) else is_linked) ≡ false → (if is_link_command parts then link_of parts else link) ≡ []
+unfolding link_of
+unlinked-osc parts is_linked link none = by (is_link_command parts)
+  where
+    by : (t : Bool) → (if t then not (is_none (uri_of parts)) else is_linked) ≡ false → (if t then (if is_whole parts && is_linkable (uri_of parts) then uri_of parts else []) else link) ≡ []
+    by true is =
+        none-either (is_whole parts && is_linkable (uri_of parts)) (uri_of parts)
+        (nil_from_length (uri_of parts) (eqb-true (length (uri_of parts)) 0 (not-false (is_none (uri_of parts)) is)))
+    by false is = none is
+
+unlinked-after : (call : Call) (is_linked : Bool) (link : List ℕ) → (is_linked ≡ false → link ≡ []) → linked_after call is_linked ≡ false → link_after call link ≡ []
+unlinked-after (print c) is_linked link none is = none is
+unlinked-after (execute b) is_linked link none is = none is
+unlinked-after (hook groups intermediates ignore final) is_linked link none is = none is
+unlinked-after (put b) is_linked link none is = none is
+unlinked-after unhook is_linked link none is = none is
+unlinked-after (osc_dispatch parts bell) is_linked link none is = unlinked-osc parts is_linked link none is
+unlinked-after (csi_dispatch groups intermediates ignore final) is_linked link none is = none is
+unlinked-after (esc_dispatch intermediates ignore final) is_linked link none is = none is
+
+-- of a run, and then of calls
+module _ (styling : Styling) (it : Element) (run : List ℕ) (more : List Call) where
+  abbrev Seen : (made : List Call) (link : List ℕ) → Type 0
+  Seen made link =
+      map href_of (shown_from styling (element it.style []) (made ++ more))
+      ≡ hrefs_of link (address_of run) ++ (hrefs_of [] (behind_address run) ++ map href_of (shown_from styling (element it.style []) more))
+
+  seen-link : is_link run ≡ true → Seen (released_as true (address_of run) (behind_address run) run) (address_of run)
+  seen-link is =
+      let address = address_of run in
+      let behind = behind_address run in
+      let end = prints behind ++ more in
+      ap (λ (l : List Call). map href_of (shown_from styling (element it.style (link_of (codes "8" ∷ [] ∷ address ∷ []))) l)) (append_assoc (prints address) (link_command [] ∷ prints behind) more)
+      ∙ ap (λ (link : List ℕ). map href_of (shown_from styling (element it.style link) (prints address ++ (link_command [] ∷ end)))) (link-selected run is)
+      ∙ seen-prints styling (element it.style address) address (link_command [] ∷ end)
+      ∙ ap (λ (l : List (List ℕ)). hrefs_of address address ++ l)
+      (ap (λ (link : List ℕ). map href_of (shown_from styling (element it.style link) end)) link-ended ∙ seen-prints styling (element it.style []) behind more)
+
+  seen-text : Seen (prints run) []
+  seen-text =
+      let address = address_of run in
+      let behind = behind_address run in
+      let rest = map href_of (shown_from styling (element it.style []) more) in
+      seen-prints styling (element it.style []) run more
+      ∙ ap (λ (l : List (List ℕ)). l ++ rest)
+      (ap unlinked (ap (λ (l : List ℕ). stripped (prints l)) (sym (take-append-drop (address_length (length run) run) run)) ∙ printed-append address behind)
+      ∙ map-append none_at (stripped (prints address)) (stripped (prints behind)))
+      ∙ append_assoc (hrefs_of [] address) (hrefs_of [] behind) rest
+
+  seen-run : Seen (released run) (if is_link run then address_of run else [])
+  seen-run = by (is_link run) refl
+    where
+      by : (t : Bool) → is_link run ≡ t → Seen (released_as t (address_of run) (behind_address run) run) (if t then address_of run else [])
+      by true is = seen-link is
+      by false is = seen-text
+
+-- part by part
+seen-parts : (styling : Styling) (parts : List Part) (joins is_linked : Bool) (calls : List Call) (it : Element) → AreFound joins is_linked calls parts
+    → (is_linked ≡ false → it.link ≡ []) → map href_of (shown_from styling it (flat_map with_link parts)) ≡ hrefs it.link parts
+seen-parts styling [] joins is_linked calls it are none = refl
+seen-parts styling (as_is call ∷ parts) joins is_linked calls it are none =
+    map-append href_of (map (under (attributes_of styling it)) (stripped_call call)) (shown_from styling (element_after call it) (flat_map with_link parts))
+    ∙ ap₂ (λ (l m : List (List ℕ)). l ++ m) (hrefs-under styling it (stripped_call call))
+    (seen-parts styling parts (joins_call call) (linked_after call is_linked) are.0 (element_after call it) are.3 (unlinked-after call is_linked it.link none))
+seen-parts styling (in_run run ∷ parts) joins is_linked calls it are none =
+    let more = flat_map with_link parts in
+    ap (λ (l : List ℕ). map href_of (shown_from styling (element it.style l) (released run ++ more))) (none are.2)
+    ∙ seen-run styling it run more
+    ∙ ap (λ (l : List (List ℕ)). hrefs_of (if is_link run then address_of run else []) (address_of run) ++ (hrefs_of [] (behind_address run) ++ l))
+    (seen-parts styling parts (joins_after joins run) false are.0 (element it.style []) are.5 (λ _. refl))
+
+-- So a reader sees these links.
+module _ (styling : Styling) (calls : List Call) (parts : List Part) (are : AreParts calls parts) where
+  shown-hrefs : map href_of (shown_from styling no_element (linked calls)) ≡ hrefs [] parts
+  shown-hrefs =
+      let (found, found_are, same) = found-linked calls in
+      ap (λ (l : List Call). map href_of (shown_from styling no_element l)) same
+      ∙ seen-parts styling found false false calls no_element found_are (λ _. refl)
+      ∙ ap (hrefs []) (parts-only calls found parts found_are are)
+
+  pub html-hrefs : map href_of (read (html styling (linked calls))) ≡ hrefs [] parts
+  html-hrefs = ap (map href_of) (read-html styling (linked calls)) ∙ shown-hrefs
+
+  pub lined-hrefs : map href_of (read (lined_html styling (linked calls))) ≡ hrefs [] parts
+  lined-hrefs = ap (map href_of) (read-lined_html styling (linked calls)) ∙ shown-hrefs
+
+  pub blocked-hrefs : (numbered : Bool) → map href_of (read (blocked_html numbered styling (linked calls))) ≡ hrefs [] parts
+  blocked-hrefs numbered = ap (map href_of) (read-blocked_html numbered styling (linked calls)) ∙ shown-hrefs

@@ -11,7 +11,6 @@ use Rattle.ansi_html.specs.Styled.{Styled, shown_after, bytes_of}
 use Rattle.ansi_html.proofs.GrammarLemmas.{IsInElement, IsInside-nothing}
 use Rattle.ansi_html.proofs.LawfulText.{AreTextual, ArePrinted-encode, AreTextual-printed}
 use Rattle.ansi_html.proofs.LinerLemmas.{element_end-none}
-use Rattle.ansi_html.proofs.PartLemmas.{Others, Others-text, Others-last}
 use Rattle.ansi_html.proofs.SoundLemmas.{IsSound, IsSound-none}
 use Rattle.ansi_html.proofs.StyledLemmas.{IsInside-styled, IsSound-shown_after}
 use Rattle.ansi_screen.specs.After.{State, new_state, after_all}
@@ -26,6 +25,7 @@ use Rattle.screen_html.specs.Writer.{row_html, closing_html}
 use Rattle.screen_html.specs.Blocks.{Blocked, blocked, left_after_row, row_blocked, after_row_blocked, after_command_blocked, closing_blocked, shown_blocked}
 use Rattle.screen_html.proofs.BlockLemmas.{IsOutside, outside-start, outside-row, regroup, closing-none, all_blocked, all_given, blocked-all}
 use Rattle.screen_html.proofs.CellLemmas.{of-shown}
+use Rattle.screen_html.proofs.FragmentLemmas.{Others, Others-text, Others-last}
 use Rattle.screen_html.proofs.HandedLemmas.{AreKept, kept-none, kept-after, links-row, links-closing}
 use Rattle.screen_html.proofs.ShownLemmas.{between, handed-rows}
 use Rattle.screen_html.proofs.WholeLemmas.{AreTextual-append, textual_feed}

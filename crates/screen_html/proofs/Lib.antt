@@ -7,6 +7,7 @@ pub mod BlockRowLemmas
 pub mod CellLemmas
 pub mod WholeLemmas
 pub mod BlockPartLemmas
+pub mod FragmentLemmas
 pub mod BlockReadLemmas
 pub mod LastLemmas
 pub mod PageLemmas

@@ -179,7 +179,7 @@ TYPES = {  # what type checkers are told that each function takes and gives, wit
     ("page", "str", "_Styling", "str", "str", "str"): STRS,
     ("page", "_Bytes", "_Styling", "str", "str", "bytes"): WHOLES,
     ("stylesheet", "Literal['both', 'light', 'dark']", "str"): ["both", "light", "dark"],
-    ("events", "Union[str, _Bytes, Iterable[Union[str, _Bytes]], _File[str], _File[bytes]]", "Iterator[_Event]"): [
+    ("events", "Union[str, _Bytes, Iterable[Union[str, _Bytes]], _File[str], _File[bytes]]", "Iterator[Event]"): [
         *["A\n", *WHOLES, WHOLES, ["A", b"B"], io.BytesIO(b"A"), io.StringIO("A\n")]
     ],
 }
@@ -191,8 +191,8 @@ def stub_cases():
 
     told = ast.parse(read("bindings/python/src/ansi_proved/__init__.pyi")).body
     functions = [it for it in told if isinstance(it, ast.FunctionDef)]
-    events = {name.asname for it in told if isinstance(it, ast.ImportFrom) and it.module == "event" for name in it.names}
-    names = {it.name for it in functions} | {it.target.id for it in told if isinstance(it, ast.AnnAssign)} | events
+    events = {name.asname for it in told if isinstance(it, ast.ImportFrom) and it.module == "event" for name in it.names} - {"Event"}
+    names = {it.name for it in told if isinstance(it, (ast.FunctionDef, ast.ClassDef))} | {"Event"} | {it.target.id for it in told if isinstance(it, ast.AnnAssign)} | events
     names |= {name.asname for it in told if isinstance(it, ast.ImportFrom) and it.module == "screen" for name in it.names}
     wrong = names ^ {*ansi.__all__, "__version__"}
     yield "Python: types are told of each public name", "not so of %s" % sorted(wrong) if wrong else None
@@ -205,10 +205,11 @@ def stub_cases():
         is_so = found == list(zip((arg.arg for arg in given), defaults))
         yield "Python: what is told to be given to %s" % it.name, None if is_so else "it takes %s" % found
     unions = {it.targets[0].id: ast.unparse(it.value) for it in told if isinstance(it, ast.Assign)}
-    for name, of in (("_Bytes", ["bytes", "bytearray", "memoryview"]), ("_Event", FIELDS)):
-        found = re.fullmatch(r"Union\[(.*)\]", unions.get(name, ""))
-        is_so = found and set(found[1].split(", ")) == set(of)
-        yield "Python: what %s is" % name, None if is_so else "it is %s" % unions.get(name)
+    found = re.fullmatch(r"Union\[(.*)\]", unions.get("_Bytes", ""))
+    is_so = found and set(found[1].split(", ")) == {"bytes", "bytearray", "memoryview"}
+    yield "Python: what _Bytes is", None if is_so else "it is %s" % unions.get("_Bytes")
+    found = {it.__name__ for it in ansi.Event.__args__}
+    yield "Python: what Event is", None if found == set(FIELDS) else "it is %s" % found
     found = [tuple(ast.unparse(it) for it in (*(arg.annotation for arg in [*of.args.args, *of.args.kwonlyargs]), of.returns)) for of in functions]
     found = [(of.name, *types) for of, types in zip(functions, found)]
     yield "Python: what is told to come of what", None if found == list(TYPES) else "it is %s" % found

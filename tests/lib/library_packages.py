@@ -192,7 +192,7 @@ def stub_cases():
     told = ast.parse(read("bindings/python/src/ansi_proved/__init__.pyi")).body
     functions = [it for it in told if isinstance(it, ast.FunctionDef)]
     events = {name.asname for it in told if isinstance(it, ast.ImportFrom) and it.module == "event" for name in it.names} - {"Event"}
-    names = {it.name for it in told if isinstance(it, (ast.FunctionDef, ast.ClassDef))} | {"Event"} | {it.target.id for it in told if isinstance(it, ast.AnnAssign)} | events
+    names = {it.name for it in told if isinstance(it, (ast.FunctionDef, ast.ClassDef)) and it.name[0] != "_"} | {"Event"} | {it.target.id for it in told if isinstance(it, ast.AnnAssign)} | events
     names |= {name.asname for it in told if isinstance(it, ast.ImportFrom) and it.module == "screen" for name in it.names}
     wrong = names ^ {*ansi.__all__, "__version__"}
     yield "Python: types are told of each public name", "not so of %s" % sorted(wrong) if wrong else None

@@ -188,7 +188,7 @@ module _ {W : Type 0} (sink : SinkOf W) where
       → fault_in a ≡ None → (stopped : Stopped) → GetsOn {T = T} (Err stopped) (fault_in b) (HoldsBack sink (writer_in b))
       → failed_after ≡ failed
       → StopsBy {T = T} (Err stopped) at_end (fault_in b) (HoldsBack sink (writer_in b)) failed failed_after count
-  stops-there T at_end failed failed_after count text a b added none Stuck gets kept = (gets.0, (gets.1, kept))
+  stops-there T at_end failed failed_after count text a b added none Stuck gets kept = (gets.0, gets.1, kept)
   stops-there T at_end failed failed_after count text a b added none (AtFault Write) gets kept = (write-fault text a b added none gets, kept)
   stops-there T at_end failed failed_after count text a b added none (AtFault Read) gets kept = absurd gets
   stops-there T at_end failed failed_after count text a b added none (AtFault Flush) gets kept = absurd gets

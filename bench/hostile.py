@@ -66,6 +66,7 @@ LINE_PATTERNS = {
     "letters, each in a line": (b"", b"x\n"),
     "a long link over line feeds": (LONG_LINK, b"\n"),
     "a long link over letters, each in a line": (LONG_LINK, b"x\n"),
+    "a long style and a link of 100 bytes over line feeds": (LONG + b"\x1b]8;;http://" + b"a" * 93 + b"\x07", b"\n"),
     "a long style over letters, each in a line": (LONG, b"x\n"),
     "a long style over line feeds": (LONG, b"\n"),
     "a long style and a short link over line feeds": (LONG + b"\x1b]8;;mailto:\x07", b"\n"),

@@ -135,7 +135,27 @@ def line_rows(red, link):
             numbered(1, link(b"a\n")) + numbered(2, link(red(b"b\n"))) + numbered(3, red(b"c")),
         ),
         ("a title among the lines", b"a\n\x1b]0;t\x07\x07b\n", numbered(1, b"a\n") + numbered(2, b"b\n")),
+        *[(name, OSC_LINK % uri + text, lines_of(lambda it: link(it).replace(b"http://a/", uri.replace(b"&", b"&amp;")), *lines)) for name, uri, text, *lines in LINKS_OVER_LINES],
     ]
+
+
+# Links that can pay to stand in the next line and that can't: a byte of text earns 25 bytes of a link as it is written, and a line feed 100
+# (man/ansi2html.1). Each line follows, those with the link first.
+OSC_LINK = b"\x1b]8;;%s\x07"
+LINKS_OVER_LINES = [
+    ("a link of 100 bytes over empty lines", b"http://" + b"a" * 93, b"\n" * 20, [b"\n"] * 20, []),
+    ("one of 101 bytes", b"http://" + b"a" * 94, b"\n\nx", [b"\n"], [b"\n", b"x"]),
+    ("one of 97 as it is written", b"http://" + b"&" * 18, b"\n\n", [b"\n", b"\n"], []),
+    ("one of 102 as it is written", b"http://" + b"&" * 19, b"\n\n", [b"\n"], [b"\n"]),
+    ("one of 150 bytes over a line of two", b"http://" + b"a" * 143, b"xx\ny\nz", [b"xx\n", b"y\n"], [b"z"]),
+    ("one of 1,000 bytes over lines of 36", b"http://" + b"a" * 993, (b"x" * 36 + b"\n") * 30, [b"x" * 36 + b"\n"] * 30, []),
+    ("one of 1,000 bytes over lines of 35", b"http://" + b"a" * 993, (b"x" * 35 + b"\n") * 2, [b"x" * 35 + b"\n"], [b"x" * 35 + b"\n"]),
+]
+
+
+def lines_of(link, linked, plain):
+    """The lines, one after another, those with the link first."""
+    return b"".join(numbered(number, it) for number, it in enumerate([link(it) for it in linked] + plain, 1))
 
 
 def block_rows(red, line):

@@ -90,6 +90,7 @@ PHRASES = {
         *STATUSES, *OF_SHOWN, *CUT_OFF, "del (7f) and " + C1, "the default, named, 256 and red", "links (osc 8) whose uri", "was not cut at {MAX_OSC_RAW} bytes or {MAX_OSC_PARTS} parts",
         "hyphens, {MOST_OF_A_TAG} at most", "of the colours 16 to 255", 'data-line="10"', "of more than {ADDRESS} bytes", "the link (osc 8) in which", "the last {MOST_KEPT} that began",
         'in blocks of {LINES_A_BLOCK} lines each, <span data-lines="{LINES_A_BLOCK}">', "(css containment, 4)", "links (osc 8) to other schemes",
+        "each byte of text earns {BYTE_EARNS} of them, and each line feed {FEED_EARNS}",
     ],
     "man/ansi2screen.1": [
         STATUSES[0], STATUSES[3], "was said. {FAILED} the file", "shown. {MISUSED} an option", "to show sgr {hidden}", "a character that is broken is u+fffd", "--size 80x24",
@@ -111,7 +112,7 @@ CONSTANTS = {
     "event_pieces/src/event": ["MAX_INTERMEDIATES"], "html_pieces/src/state": ["MAX_LINK"], "html_pieces/src/feeding": ["CAPACITY", "MOST_TAKEN"],
     "screen_html/src/table": ["MOST_KEPT"], "screen_draw/src/updates": ["PIECE"], "ansi2html/src/words": ["MOST_OF_A_TAG"], "ansi_html/src/block": ["LINES_A_BLOCK"],
     "command_line/src/lib": ["FAILED", "MISUSED", "READER_GONE"], "ansi_screen/src/size": ["MIN_COLUMNS", "MAX_COLUMNS", "MIN_ROWS", "MAX_ROWS"],
-    "screen_pieces/src/modes": ["RESERVED_MODES"], "ansi_screen_c/src/history": ["RESERVED_OPTIONS"],
+    "screen_pieces/src/modes": ["RESERVED_MODES"], "ansi_screen_c/src/history": ["RESERVED_OPTIONS"], "ansi_html/src/spare": ["BYTE_EARNS", "FEED_COUNTS"],
 }  # fmt: skip
 PLAIN = ["PIECE", "MAX_COLUMNS", "MAX_ROWS"]  # which stand there with no commas
 
@@ -132,6 +133,7 @@ def numbers(read, constant, executed):
     """The numbers of the code, by their names."""
     found = {name: int(constant("crates/%s.rt" % path, name)) for path, names in CONSTANTS.items() for name in names}
     found["OSC"] = found["MAX_OSC_RAW"] + found["MAX_OSC_PARTS"] - 1
+    found["FEED_EARNS"] = found["BYTE_EARNS"] * found["FEED_COUNTS"]
     found["ADDRESS"] = int(constant("crates/html_urls/src/held.rt", "ROOM")) - 1  # (and the byte that ends it)
     found["HELD_BACK"] = int(constant("crates/anstyle_parse/src/io/held.rt", "CAPACITY")) >> 10
     for names, path in (("COLUMNS", "ROWS"), "ansi_screen/src/size"), (("RECORDED_COLUMNS", "RECORDED_ROWS"), "screen_text/src/recording"):

@@ -8,16 +8,16 @@ use Rattle.ansi_strip.specs.Strip.{stripped_call}
 use Rattle.ansi_style.specs.declared.style.Style.{Style}
 use Rattle.ansi_html.specs.declared.scheme.Styling.{Styling}
 use Rattle.ansi_html.specs.declared.scheme.Styling.TheVariants.{Inline, Classes}
-use Rattle.ansi_html.specs.Links.{link_after}
-use Rattle.ansi_html.specs.Html.{span_begin, link_begin, element_end, Standing, at_start, after_text, is_executed, call_html, standing_after, html_of_a_byte}
-use Rattle.ansi_html.specs.Lines.{max_number, Lined, lined, ended, lined_call, lined_after, lined_end, HasLinksUpTo, lined_html_of_a_byte}
+use Rattle.ansi_html.specs.Html.{span_begin, element_end, Standing, at_start, after_text, is_executed, call_html, standing_after, html_of_a_byte}
+use Rattle.ansi_html.specs.Lines.{max_number, Lined, lined, ended, lined_call, lined_after, lined_end, lined_html_of_a_byte}
 use Rattle.ansi_html.specs.Blocks.{lines_a_block, block_begin, block_end, Blocked, blocked, blocked_at_start, left_with_text, block_opening, ends_block, block_closing, left_after, block_ended, blocked_call, blocked_after, blocked_from, blocked_at_end, blocked_end, blocked_html, block_of_a_byte, block_tags}
 use Rattle.ansi_html.proofs.ColorLemmas.{choose}
 use Rattle.ansi_html.proofs.SoundLemmas.{AreSound, AreSound-start, AreSound-after}
 use Rattle.ansi_html.proofs.LengthLemmas.{AtMost, AtMost-end, AtMost-span_begin, AtMost-span_of_classes, length-link}
 use Rattle.ansi_html.proofs.BoundLemmas.{units, all_units, few-units, times-add, times-less, pending, pending-same, Few, few-call}
 use Rattle.ansi_html.proofs.LinerLemmas.{element_end-none}
-use Rattle.ansi_html.proofs.LineBoundLemmas.{add-times, units-feed, number-few, pending-ended, Short, short-after, short-lined, few-lined_call, few-end}
+use Rattle.ansi_html.proofs.LineBoundLemmas as lines
+use Rattle.ansi_html.proofs.LineBoundLemmas.{add-times, units-feed, number-few, pending-ended, few-lined_call, few-end}
 use Rattle.ansi_html.proofs.PartLemmas.{lined_after-feed}
 use Rattle.ansi_html.proofs.BlockLemmas.{left-some, one-less, AreSound-blocked}
 
@@ -85,7 +85,7 @@ module _ (styling : Styling) (rate span : ℕ) (much : 30 ≤ rate) (most : rate
       at = standing_after call it.inside.at
 
       after : Lined
-      after = lined at it.inside.number it.inside.is_open
+      after = lined at it.inside.number it.inside.is_open it.inside.spare
 
       after_by : (feed full : Bool) → List ℕ → Blocked
       after_by feed full bytes =
@@ -176,105 +176,95 @@ module _ (styling : Styling) (rate span : ℕ) (much : 30 ≤ rate) (most : rate
       )
 
   -- numbered lines
-  module _ (limit : ℕ) where
-    abbrev all_rate : ℕ
-    all_rate = 4 * rate + 121 + limit
+  abbrev lines_rate : ℕ
+  lines_rate = 4 * rate + 281
 
-    few-numbered_call : (call : Call) (it : Blocked) → it.inside.number ≤ max_number → Short styling rate span much four spans limit (standing_after call it.inside.at)
-        → length (blocked_call true styling it call) + pending_at (blocked_after true call it).inside.at
-        ≤ pending_at it.inside.at + (all_rate * units call + 30 * units call)
-    few-numbered_call call it few short = by_case (is_executed 0x0A call) refl (left_with_text it == 1)
-      where
-        opening : List ℕ
-        opening = after_text [] (block_opening it) (stripped_call call)
+  abbrev owed_in : Lined → ℕ
+  owed_in it = lines.owed styling rate span much four spans it
 
-        text : List ℕ
-        text = lined_call styling it.inside call
+  few-numbered_call : (call : Call) (it : Blocked) → it.inside.number ≤ max_number
+      → length (blocked_call true styling it call) + owed_in (blocked_after true call it).inside
+      ≤ owed_in it.inside + (lines_rate * units call + 30 * units call)
+  few-numbered_call call it few = by_case (is_executed 0x0A call) refl (left_with_text it == 1)
+    where
+      opening : List ℕ
+      opening = after_text [] (block_opening it) (stripped_call call)
 
-        after : Lined
-        after = lined_after call it.inside
+      text : List ℕ
+      text = lined_call styling it.inside call
 
-        here : length text + pending_at after.at ≤ pending_at it.inside.at + all_rate * units call
-        here = few-lined_call styling rate span much four spans limit call it.inside few short
+      after : Lined
+      after = lined_after call it.inside
 
-        same : is_executed 0x0A call ≡ true → (element_end after.at.shown ≡ []) × (pending_at (ended after.at) ≡ pending_at after.at)
-        same feeds =
-            let is = lined_after-feed call it.inside feeds in (
-              ap (λ (l : Lined). element_end l.at.shown) is ∙ element_end-none,
-              ap (λ (l : Lined). pending_at (ended l.at)) is ∙ sym (ap (λ (l : Lined). pending_at l.at) is),
-            )
+      here : length text + owed_in after ≤ owed_in it.inside + lines_rate * units call
+      here = few-lined_call styling rate span much four spans call it.inside few
 
-        by_case : (feed : Bool) → is_executed 0x0A call ≡ feed → (full : Bool)
-            → length (opening ++ (text ++ block_closing after (feed && full)))
-            + pending_at (if feed && full then block_ended after else blocked after (left_after it call)).inside.at
-            ≤ pending_at it.inside.at + (all_rate * units call + 30 * units call)
-        by_case false other full = omega (arith, here, few-opened it call, length-append opening (text ++ []), length-append text [])
-        by_case true feeds false = omega (arith, here, few-opened it call, length-append opening (text ++ []), length-append text [])
-        by_case true feeds true =
-            omega (
-              arith,
-              here,
-              few-opened it call,
-              units-feed call feeds,
-              length-append opening (text ++ (element_end after.at.shown ++ block_end)),
-              length-append text (element_end after.at.shown ++ block_end),
-              length-append (element_end after.at.shown) block_end,
-              ap length (same feeds).0,
-              (same feeds).1,
-            )
+      same : is_executed 0x0A call ≡ true → (element_end after.at.shown ≡ []) × (pending_at (ended after.at) ≡ pending_at after.at)
+      same feeds =
+          let is = lined_after-feed call it.inside feeds in (
+            ap (λ (l : Lined). element_end l.at.shown) is ∙ element_end-none,
+            ap (λ (l : Lined). pending_at (ended l.at)) is ∙ sym (ap (λ (l : Lined). pending_at l.at) is),
+          )
 
-    short-numbered : (call : Call) (it : Blocked) → Short styling rate span much four spans limit it.inside.at → length (link_begin styling (link_after call [])) ≤ limit
-        → Short styling rate span much four spans limit (blocked_after true call it).inside.at
-    short-numbered call it short here = by_case (ends_block it call)
-      where
-        after : Lined
-        after = lined_after call it.inside
+      by_case : (feed : Bool) → is_executed 0x0A call ≡ feed → (full : Bool)
+          → length (opening ++ (text ++ block_closing after (feed && full)))
+          + owed_in (if feed && full then block_ended after else blocked after (left_after it call)).inside
+          ≤ owed_in it.inside + (lines_rate * units call + 30 * units call)
+      by_case false other full = omega (arith, here, few-opened it call, length-append opening (text ++ []), length-append text [])
+      by_case true feeds false = omega (arith, here, few-opened it call, length-append opening (text ++ []), length-append text [])
+      by_case true feeds true =
+          omega (
+            arith,
+            here,
+            few-opened it call,
+            units-feed call feeds,
+            length-append opening (text ++ (element_end after.at.shown ++ block_end)),
+            length-append text (element_end after.at.shown ++ block_end),
+            length-append (element_end after.at.shown) block_end,
+            ap length (same feeds).0,
+            (same feeds).1,
+          )
 
-        by_case : (ends : Bool) → Short styling rate span much four spans limit (if ends then block_ended after else blocked after (left_after it call)).inside.at
-        by_case true = short-lined styling rate span much four spans limit call it.inside short here
-        by_case false = short-lined styling rate span much four spans limit call it.inside short here
+  number-numbered : (call : Call) (it : Blocked) → it.inside.number ≤ max_number → (blocked_after true call it).inside.number ≤ max_number
+  number-numbered call it few = by_case (ends_block it call)
+    where
+      after : Lined
+      after = lined_after call it.inside
 
-    number-numbered : (call : Call) (it : Blocked) → it.inside.number ≤ max_number → (blocked_after true call it).inside.number ≤ max_number
-    number-numbered call it few = by_case (ends_block it call)
-      where
-        after : Lined
-        after = lined_after call it.inside
+      by_case : (ends : Bool) → (if ends then block_ended after else blocked after (left_after it call)).inside.number ≤ max_number
+      by_case true = number-few call it.inside few
+      by_case false = number-few call it.inside few
 
-        by_case : (ends : Bool) → (if ends then block_ended after else blocked after (left_after it call)).inside.number ≤ max_number
-        by_case true = number-few call it.inside few
-        by_case false = number-few call it.inside few
+  few-numbered : (it : Blocked) (calls : List Call) → it.inside.number ≤ max_number
+      → length (blocked_from true styling it calls) ≤ owed_in it.inside + (lines_rate * all_units calls + 30 * all_units calls)
+  unfolding all_units
+  few-numbered it [] few = omega arith
+  few-numbered it (call ∷ calls) few =
+      let after = blocked_after true call it in
+      omega (
+        arith,
+        length-append (blocked_call true styling it call) (blocked_from true styling after calls),
+        few-numbered_call call it few,
+        few-numbered after calls (number-numbered call it few),
+        times-add lines_rate (units call) (all_units calls),
+      )
 
-    few-numbered : (it : Blocked) (calls : List Call) → it.inside.number ≤ max_number → Short styling rate span much four spans limit it.inside.at → HasLinksUpTo limit styling calls
-        → length (blocked_from true styling it calls) ≤ pending_at it.inside.at + (all_rate * all_units calls + 30 * all_units calls)
-    unfolding all_units
-    few-numbered it [] few short are = omega arith
-    few-numbered it (call ∷ calls) few short are =
-        let after = blocked_after true call it in
-        omega (
-          arith,
-          length-append (blocked_call true styling it call) (blocked_from true styling after calls),
-          few-numbered_call call it few (short-after styling rate span much four spans limit call it.inside.at short are.0),
-          few-numbered after calls (number-numbered call it few) (short-numbered call it short are.0) are.1,
-          times-add all_rate (units call) (all_units calls),
-        )
-
-    few-numbered_html : (bytes : List ℕ) (calls : List Call) → AreCalls bytes calls → HasLinksUpTo limit styling calls
-        → length (blocked_html true styling calls) ≤ (all_rate + 30) * length bytes + 25
-    few-numbered_html bytes calls are links =
-        let last = blocked_at_end true blocked_at_start calls in
-        let close = if last.left == 0 then [] else block_end in
-        omega (
-          arith,
-          length-append (blocked_from true styling blocked_at_start calls) (blocked_end true last),
-          length-append (lined_end last.inside) close,
-          few-end styling rate span much four spans limit last.inside,
-          choose (λ l. length l ≤ 7) (last.left == 0) [] block_end (omega arith) (omega arith),
-          few-numbered blocked_at_start calls (omega arith) (omega arith) links,
-          pending-same styling rate span much four spans at_start.shown false,
-          times-less all_rate (all_units calls) (length bytes) (few-units bytes calls are),
-          few-units bytes calls are,
-          add-times all_rate 30 (length bytes),
-        )
+  few-numbered_html : (bytes : List ℕ) (calls : List Call) → AreCalls bytes calls → length (blocked_html true styling calls) ≤ (lines_rate + 30) * length bytes + 25
+  few-numbered_html bytes calls are =
+      let last = blocked_at_end true blocked_at_start calls in
+      let close = if last.left == 0 then [] else block_end in
+      omega (
+        arith,
+        length-append (blocked_from true styling blocked_at_start calls) (blocked_end true last),
+        length-append (lined_end last.inside) close,
+        few-end styling rate span much four spans last.inside,
+        choose (λ l. length l ≤ 7) (last.left == 0) [] block_end (omega arith) (omega arith),
+        few-numbered blocked_at_start calls (omega arith),
+        pending-same styling rate span much four spans at_start.shown false,
+        times-less lines_rate (all_units calls) (length bytes) (few-units bytes calls are),
+        few-units bytes calls are,
+        add-times lines_rate 30 (length bytes),
+      )
 
 -- The HTML of text in blocks,
 pub length-blocked_html : (styling : Styling) (bytes : List ℕ) (calls : List Call) → AreCalls bytes calls
@@ -284,11 +274,10 @@ length-blocked_html (Inline scheme) bytes calls are =
     few-blocked_html (Inline scheme) 74 275 (omega arith) (omega arith) refl (λ style. AtMost-span_begin (Inline scheme) style) bytes calls are
 length-blocked_html Classes bytes calls are = few-blocked_html Classes 35 119 (omega arith) (omega arith) refl AtMost-span_of_classes bytes calls are
 
--- and of numbered lines, of a stream of whose links none has a longer tag.
-pub length-numbered_html : (styling : Styling) (limit : ℕ) (bytes : List ℕ) (calls : List Call) → AreCalls bytes calls → HasLinksUpTo limit styling calls
-    → length (blocked_html true styling calls) ≤ (lined_html_of_a_byte styling + limit + block_tags) * length bytes + 25
+-- and of numbered lines.
+pub length-numbered_html : (styling : Styling) (bytes : List ℕ) (calls : List Call) → AreCalls bytes calls
+    → length (blocked_html true styling calls) ≤ (lined_html_of_a_byte styling + block_tags) * length bytes + 25
 unfolding AtMost
-length-numbered_html (Inline scheme) limit bytes calls are links =
-    few-numbered_html (Inline scheme) 74 275 (omega arith) (omega arith) refl (λ style. AtMost-span_begin (Inline scheme) style) limit bytes calls are links
-length-numbered_html Classes limit bytes calls are links =
-    few-numbered_html Classes 35 119 (omega arith) (omega arith) refl AtMost-span_of_classes limit bytes calls are links
+length-numbered_html (Inline scheme) bytes calls are =
+    few-numbered_html (Inline scheme) 74 275 (omega arith) (omega arith) refl (λ style. AtMost-span_begin (Inline scheme) style) bytes calls are
+length-numbered_html Classes bytes calls are = few-numbered_html Classes 35 119 (omega arith) (omega arith) refl AtMost-span_of_classes bytes calls are

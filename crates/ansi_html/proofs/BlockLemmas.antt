@@ -9,16 +9,18 @@ use Rattle.anstyle_parse.specs.Stream.Call.{Call}
 use Rattle.ansi_strip.specs.Strip.{stripped_call, stripped}
 use Rattle.ansi_strip.proofs.Showable.{IsShowable, AreShowable}
 use Rattle.ansi_html.specs.declared.scheme.Styling.{Styling}
-use Rattle.ansi_html.specs.Html.{Element, no_element, element_end, after_text, is_executed, standing_after, html}
-use Rattle.ansi_html.specs.Lines.{Lined, lined, ended, text_number, lined_at_start}
-use Rattle.ansi_html.specs.Blocks.{lines_a_block, block_begin, block_end, inside_call, inside_after, inside_end, Blocked, blocked, blocked_at_start, left_with_text, block_opening, ends_block, block_closing, left_after, block_ended, blocked_after, blocked_from, blocked_at_end, blocked_end, blocked_html}
+use Rattle.ansi_html.specs.Affordable.{earned_by_text, spare_after, link_kept, end_unpaid, affordable_from}
+use Rattle.ansi_html.specs.Html.{Element, no_element, element_end, at_start, after_text, is_executed, standing_after, html}
+use Rattle.ansi_html.specs.Lines.{Lined, lined, text_number, after_feed, after_others, lined_at_start}
+use Rattle.ansi_html.specs.Blocks.{lines_a_block, block_begin, block_end, inside_call, inside_after, inside_end, Blocked, blocked, blocked_at_start, left_with_text, block_opening, ends_block, block_closing, left_after, block_ended, blocked_after, blocked_from, blocked_at_end, blocked_end, blocked_html, calls_seen}
 use Rattle.ansi_html.specs.Reader.{Attributes, no_attributes, in_force, Seen, seen_from, seen, in_text, read_of, read, byte_of, shown_from}
+use Rattle.ansi_html.proofs.AffordableLemmas.{stripped-affordable}
 use Rattle.ansi_html.proofs.ColorLemmas.{choose}
 use Rattle.ansi_html.proofs.NewlineLemmas.{is_not_return, HasNoReturn, HasNoReturn-append, HasNoReturn-text, HasNoReturn-end, normalized-same}
 use Rattle.ansi_html.proofs.TextLemmas.{IsUtf8-text_html, IsUtf8-stripped, IsUtf8-end, IsUtf8-ascii}
 use Rattle.ansi_html.proofs.SoundLemmas.{AreSound, AreSound-start, AreSound-after, IsSound-none}
 use Rattle.ansi_html.proofs.ReadLemmas.{seen_text, seen_calls, open_in, open-none, seen-text, seen-element_end, seen-html, read-html, text-html}
-use Rattle.ansi_html.proofs.LineLemmas.{IsClosed, around_text, feed-text, closed-after, seen_calls-ended, seen_calls-after, seen-lined_call, seen-lined_end, HasNoReturn-lined_call, HasNoReturn-lined_end, IsUtf8-lined_call, IsUtf8-lined_end, AreSound-lined}
+use Rattle.ansi_html.proofs.LineLemmas.{IsClosed, around_text, feed-text, closed-after, seen_calls-ended, seen-paid, seen-lined_call, seen-lined_end, HasNoReturn-lined_call, HasNoReturn-lined_end, IsUtf8-lined_call, IsUtf8-lined_end, AreSound-lined}
 
 -- the elements in which the text of a block stands: the block's own, which says nothing; and where none is open
 abbrev pub in_block : List Attributes
@@ -57,23 +59,23 @@ around-feed : (numbered : Bool) (outer : List Attributes) (call : Call) (it : Li
     → around_inside numbered outer (inside_after numbered call it).is_open ≡ outer
 around-feed false outer call it feeds = refl
 around-feed true outer call it feeds =
-    ap (λ (feed : Bool). around_text outer (if feed then lined (ended (standing_after call it.at)) (text_number it) false
-    else lined (standing_after call it.at) (after_text it.number (text_number it) (stripped_call call)) (after_text it.is_open true (stripped_call call))).is_open) feeds
+    ap (λ (feed : Bool). around_text outer (if feed then after_feed call it
+    else after_others call it).is_open) feeds
 
 -- what a call that is no line feed leaves open
 inside-shown : (numbered : Bool) (call : Call) (it : Lined) → is_executed 0x0A call ≡ false
     → (inside_after numbered call it).at.shown ≡ after_text it.at.shown it.at.selected (stripped_call call)
 inside-shown false call it other = refl
 inside-shown true call it other =
-    ap (λ (feed : Bool). (if feed then lined (ended (standing_after call it.at)) (text_number it) false
-    else lined (standing_after call it.at) (after_text it.number (text_number it) (stripped_call call)) (after_text it.is_open true (stripped_call call))).at.shown) other
+    ap (λ (feed : Bool). (if feed then after_feed call it
+    else after_others call it).at.shown) other
 
 pub inside-open : (numbered : Bool) (call : Call) (it : Lined) → is_executed 0x0A call ≡ false → stripped_call call ≡ []
     → (inside_after numbered call it).is_open ≡ it.is_open
 inside-open false call it other none = refl
 inside-open true call it other none =
-    ap₂ (λ (feed : Bool) (bytes : List ℕ). (if feed then lined (ended (standing_after call it.at)) (text_number it) false
-    else lined (standing_after call it.at) (after_text it.number (text_number it) bytes) (after_text it.is_open true bytes)).is_open) other none
+    ap₂ (λ (feed : Bool) (bytes : List ℕ). (if feed then after_feed call it
+    else lined (standing_after call it.at) (after_text it.number (text_number it) bytes) (after_text it.is_open true bytes) (earned_by_text bytes it.spare)).is_open) other none
 
 -- Calls inside of blocks are closed as lines are.
 pub inside-line : (numbered : Bool) (styling : Styling) (call : Call) (it : Lined) → (numbered ≡ true → IsClosed it)
@@ -115,10 +117,38 @@ pub seen-inside_end : (numbered : Bool) (styling : Styling) (outer : List Attrib
 seen-inside_end false styling outer it rest = seen-element_end outer rest styling it.at.shown
 seen-inside_end true styling outer it rest = seen-lined_end styling outer it rest
 
+-- the calls whose HTML is seen, from where links have so much to spare, and after a call
+abbrev seen_by : (numbered : Bool) → (spare : ℕ) → (link : List ℕ) → List Call → List Call
+seen_by false spare link calls = calls
+seen_by true spare link calls = affordable_from spare link calls
+
+abbrev seen_next : (numbered : Bool) → Call → (spare : ℕ) → (link : List ℕ) → List Call → List Call
+seen_next false call spare link calls = calls
+seen_next true call spare link calls =
+    end_unpaid call spare link ++ affordable_from (spare_after call spare link) (link_kept call spare link) calls
+
+seen_by-call : (numbered : Bool) (call : Call) (spare : ℕ) (link : List ℕ) (calls : List Call)
+    → (call ∷ seen_next numbered call spare link calls) ≡ seen_by numbered spare link (call ∷ calls)
+seen_by-call false call spare link calls = refl
+seen_by-call true call spare link calls = refl
+
+seen_by-none : (numbered : Bool) (spare : ℕ) (link : List ℕ) → [] ≡ seen_by numbered spare link []
+seen_by-none false spare link = refl
+seen_by-none true spare link = refl
+
+seen_by-start : (numbered : Bool) (calls : List Call) → seen_by numbered 0 [] calls ≡ calls_seen numbered calls
+seen_by-start false calls = refl
+seen_by-start true calls = refl
+
+stripped-seen : (numbered : Bool) (calls : List Call) → stripped (calls_seen numbered calls) ≡ stripped calls
+stripped-seen false calls = refl
+stripped-seen true calls = stripped-affordable calls
+
 seen_calls-inside : (numbered : Bool) (styling : Styling) (call : Call) (it : Lined) (calls : List Call)
-    → seen_calls styling (inside_after numbered call it).at calls ≡ seen_calls styling (standing_after call it.at) calls
+    → seen_calls styling (inside_after numbered call it).at (seen_by numbered (inside_after numbered call it).spare (inside_after numbered call it).at.selected.link calls)
+    ≡ seen_calls styling (standing_after call it.at) (seen_next numbered call it.spare it.at.selected.link calls)
 seen_calls-inside false styling call it calls = refl
-seen_calls-inside true styling call it calls = seen_calls-after styling call it calls
+seen_calls-inside true styling call it calls = seen-paid styling call it calls
 
 module _ (numbered : Bool) (styling : Styling) where
   -- where a reader is between two calls
@@ -233,15 +263,23 @@ module _ (numbered : Bool) (styling : Styling) where
           }
 
   seen_calls-blocked : (call : Call) (it : Blocked) (calls : List Call)
-      → seen_calls styling (blocked_after numbered call it).inside.at calls ≡ seen_calls styling (standing_after call it.inside.at) calls
+      → seen_calls styling (blocked_after numbered call it).inside.at
+      (seen_by numbered (blocked_after numbered call it).inside.spare (blocked_after numbered call it).inside.at.selected.link calls)
+      ≡ seen_calls styling (standing_after call it.inside.at) (seen_next numbered call it.inside.spare it.inside.at.selected.link calls)
   seen_calls-blocked call it calls = by_case (ends_block it call)
     where
       after : Lined
       after = inside_after numbered call it.inside
 
-      by_case : (ends : Bool) → seen_calls styling (if ends then block_ended after else blocked after (left_after it call)).inside.at calls
-          ≡ seen_calls styling (standing_after call it.inside.at) calls
-      by_case true = seen_calls-ended styling no_element after.at calls ∙ seen_calls-inside numbered styling call it.inside calls
+      after_by : Bool → Lined
+      after_by ends = (if ends then block_ended after else blocked after (left_after it call)).inside
+
+      by_case : (ends : Bool)
+          → seen_calls styling (after_by ends).at (seen_by numbered (after_by ends).spare (after_by ends).at.selected.link calls)
+          ≡ seen_calls styling (standing_after call it.inside.at) (seen_next numbered call it.inside.spare it.inside.at.selected.link calls)
+      by_case true =
+          seen_calls-ended styling no_element after.at (seen_by numbered after.spare after.at.selected.link calls)
+          ∙ seen_calls-inside numbered styling call it.inside calls
       by_case false = seen_calls-inside numbered styling call it.inside calls
 
   seen-blocked_end : (it : Blocked) → blocked_seen it (blocked_end numbered it) ≡ []
@@ -254,8 +292,9 @@ module _ (numbered : Bool) (styling : Styling) where
 
   seen-blocked : (it : Blocked) (calls : List Call) → IsOutside numbered it
       → blocked_seen it (blocked_from numbered styling it calls ++ blocked_end numbered (blocked_at_end numbered it calls))
-      ≡ seen_calls styling it.inside.at calls
-  seen-blocked it [] outside = seen-blocked_end it
+      ≡ seen_calls styling it.inside.at (seen_by numbered it.inside.spare it.inside.at.selected.link calls)
+  seen-blocked it [] outside =
+      seen-blocked_end it ∙ ap (seen_calls styling it.inside.at) (seen_by-none numbered it.inside.spare it.inside.at.selected.link)
   seen-blocked it (call ∷ calls) outside =
       let bytes = stripped_call call in
       let after = blocked_after numbered call it in
@@ -269,6 +308,7 @@ module _ (numbered : Bool) (styling : Styling) where
       ∙ seen-inside_call numbered styling (around_block (left_of it bytes)) (block-outermost (left_of it bytes)) it.inside call (closing ++ rest) outside.line
       ∙ ap (λ l. seen_text styling it.inside.at (is_executed 0x0A call) bytes ++ l)
       (seen-block_closing call it rest ∙ seen-blocked after calls (outside-after call it outside) ∙ seen_calls-blocked call it calls)
+      ∙ ap (seen_calls styling it.inside.at) (seen_by-call numbered call it.inside.spare it.inside.at.selected.link calls)
 
   -- None of it is 0D.
   pub HasNoReturn-inside : (is : Bool) (it : Lined) (call : Call) → HasNoReturn (inside_call is styling it call)
@@ -308,8 +348,8 @@ module _ (numbered : Bool) (styling : Styling) where
       HasNoReturn-append (inside_end numbered it.inside) (if it.left == 0 then [] else block_end) (HasNoReturn-inside_end numbered it.inside)
       (choose HasNoReturn (it.left == 0) [] block_end refl refl)
 
-  -- A reader sees what it sees of the HTML without blocks,
-  pub seen-blocked_html : (calls : List Call) → seen (blocked_html numbered styling calls) ≡ seen (html styling calls)
+  -- A reader sees what it sees of the HTML without blocks of the calls that are seen in them,
+  pub seen-blocked_html : (calls : List Call) → seen (blocked_html numbered styling calls) ≡ seen (html styling (calls_seen numbered calls))
   seen-blocked_html calls =
       let last = blocked_at_end numbered blocked_at_start calls in
       ap (seen_from (in_text [])) (normalized-same (blocked_html numbered styling calls)
@@ -317,14 +357,17 @@ module _ (numbered : Bool) (styling : Styling) where
       (HasNoReturn-blocked blocked_at_start calls) (HasNoReturn-blocked_end last)))
       ∙ sym (seen-closed [] lined_at_start (blocked_html numbered styling calls) refl refl)
       ∙ seen-blocked blocked_at_start calls IsOutside-start
-      ∙ sym (seen-html styling calls)
+      ∙ ap (seen_calls styling at_start) (seen_by-start numbered calls)
+      ∙ sym (seen-html styling (calls_seen numbered calls))
 
-  -- and reads it.
-  pub read-blocked_html : (calls : List Call) → read (blocked_html numbered styling calls) ≡ shown_from styling no_element calls
-  read-blocked_html calls = ap (flat_map read_of) (seen-blocked_html calls) ∙ read-html styling calls
+  -- and reads it; its text is that of the stream.
+  pub read-blocked_html : (calls : List Call) → read (blocked_html numbered styling calls) ≡ shown_from styling no_element (calls_seen numbered calls)
+  read-blocked_html calls = ap (flat_map read_of) (seen-blocked_html calls) ∙ read-html styling (calls_seen numbered calls)
 
   pub text-blocked_html : (calls : List Call) → map byte_of (read (blocked_html numbered styling calls)) ≡ stripped calls
-  text-blocked_html calls = ap (λ seen. map byte_of (flat_map read_of seen)) (seen-blocked_html calls) ∙ text-html styling calls
+  text-blocked_html calls =
+      ap (λ seen. map byte_of (flat_map read_of seen)) (seen-blocked_html calls)
+      ∙ text-html styling (calls_seen numbered calls) ∙ stripped-seen numbered calls
 
   -- It is UTF-8.
   IsUtf8-inside : (is : Bool) (it : Lined) (call : Call) → AreSound it.at → IsShowable call → IsUtf8 (inside_call is styling it call)

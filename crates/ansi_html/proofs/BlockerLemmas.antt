@@ -278,7 +278,7 @@ module _ {W : Type 0} (sink : SinkOf W) (old begun : BlocksWriter W) (begins : B
     -- and of its last line.
     pub TakesCall-last : (begun.left == 1) ≡ true → (ended_block : Inside W)
         → inside.numbered_of ended_block ≡ inside.numbered_of new → inside.styling_of ended_block ≡ inside.styling_of new
-        → inside.lined_of ended_block ≡ lined (ended (inside.lined_of new).at) (inside.lined_of new).number false
+        → inside.lined_of ended_block ≡ lined (ended (inside.lined_of new).at) (inside.lined_of new).number false (inside.lined_of new).spare
         → Adds sink (element_end (inside.lined_of new).at.shown ++ block_end) (inside.output_of new) (inside.output_of ended_block)
         → TakesCall sink old feed (record begun { inside = ended_block; left = 0 })
     TakesCall-last last ended_block same_numbered same_styling ends closes =
@@ -288,7 +288,7 @@ module _ {W : Type 0} (sink : SinkOf W) (old begun : BlocksWriter W) (begins : B
         record {
           numbered = same_numbered ∙ takes.numbered ∙ begins.numbered;
           styling = same_styling ∙ takes.styling ∙ begins.styling;
-          standing = ap (λ lined. blocked lined 0) (ends ∙ ap (λ (l : Lined). lined (ended l.at) l.number false) (stands feed new takes))
+          standing = ap (λ lined. blocked lined 0) (ends ∙ ap (λ (l : Lined). lined (ended l.at) l.number false l.spare) (stands feed new takes))
               ∙ sym (ap after_by_feed full);
           added = subst (λ t. Adds sink t (output_of old) (inside.output_of ended_block))
               (append_assoc (block_opening it) text close

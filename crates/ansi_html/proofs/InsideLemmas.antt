@@ -28,7 +28,7 @@ pub inside_from-text : (styling : Styling) (it : Lined) (calls : List Call) → 
 inside_from-text styling it [] = refl
 inside_from-text styling it (call ∷ calls) = ap (λ l. inside_call false styling it call ++ l) (inside_from-text styling (inside_after false call it) calls)
 
-pub inside_at_end-text : (it : Lined) (calls : List Call) → inside_at_end false it calls ≡ lined (standing_at_end it.at calls) it.number it.is_open
+pub inside_at_end-text : (it : Lined) (calls : List Call) → inside_at_end false it calls ≡ lined (standing_at_end it.at calls) it.number it.is_open it.spare
 inside_at_end-text it [] = refl
 inside_at_end-text it (call ∷ calls) = inside_at_end-text (inside_after false call it) calls
 
@@ -55,7 +55,7 @@ module _ {W : Type 0} (sink : SinkOf W) (old : Inside W) where
       let after = record old { lines = record old.lines { html = new } } in
       taken call after
       (subst (λ is. Takes call is after) (sym numbered)
-      (refl, (takes.styling, (ap (λ at. lined at old.lines.number old.lines.is_open) takes.standing, takes.added))))
+      (refl, (takes.styling, (ap (λ at. lined at old.lines.number old.lines.is_open old.lines.spare) takes.standing, takes.added))))
 
   -- The same of several.
   abbrev TakesAll : List Call → Bool → Inside W → Type 0
@@ -92,7 +92,7 @@ module _ {W : Type 0} (sink : SinkOf W) (old : Inside W) where
         (
           takes.styling,
           (
-            ap (λ at. lined at old.lines.number old.lines.is_open) takes.standing ∙ sym (inside_at_end-text (lined_of old) calls),
+            ap (λ at. lined at old.lines.number old.lines.is_open old.lines.spare) takes.standing ∙ sym (inside_at_end-text (lined_of old) calls),
             subst (λ t. Adds sink t (output_of old) (output_of after)) (sym (inside_from-text (styling_of old) (lined_of old) calls)) takes.added,
           ),
         ),

@@ -178,20 +178,22 @@ unfolding AtMost colors_css classes_of
 AtMost-link_value (Inline scheme) = omega arith
 AtMost-link_value Classes = omega arith
 
--- 61 for the tag, and the URI
-pub AtMost-link_begin : (styling : Styling) (link : List ℕ) → AtMost (60 + 6 * length link) (link_begin styling link)
+-- 60 for the tag, and the link as it is written
+pub few-link_begin : (styling : Styling) (link : List ℕ) → length (link_begin styling link) ≤ 60 + length (escaped_text link)
 unfolding AtMost
-AtMost-link_begin styling link =
+few-link_begin styling link =
     let tag = attribute_text styling (value_of styling true plain) in
-    choose (λ l. length l ≤ 60 + 6 * length link) (is_none link) [] (codes "<a rel=\"nofollow noreferrer\" href=\"" ++ (escaped_text link ++ (codes "\"" ++ tag))) (omega arith)
+    choose (λ l. length l ≤ 60 + length (escaped_text link)) (is_none link) [] (codes "<a rel=\"nofollow noreferrer\" href=\"" ++ (escaped_text link ++ (codes "\"" ++ tag))) (omega arith)
     (omega (
       arith,
       length-append (codes "<a rel=\"nofollow noreferrer\" href=\"") (escaped_text link ++ (codes "\"" ++ tag)),
       length-append (escaped_text link) (codes "\"" ++ tag),
-      length-append (codes "\"") tag,
-      length-escaped_text link,
       AtMost-attribute 14 styling (value_of styling true plain) (AtMost-link_value styling),
     ))
+
+pub AtMost-link_begin : (styling : Styling) (link : List ℕ) → AtMost (60 + 6 * length link) (link_begin styling link)
+unfolding AtMost
+AtMost-link_begin styling link = omega (arith, few-link_begin styling link, length-escaped_text link)
 
 -- a URI that begins with a scheme has seven bytes at least that are written as they are
 length-scheme : (first link : List ℕ) → escaped_text first ≡ first → 7 ≤ length first → starts_with nat_eq link first ≡ true → length (escaped_text link) + 35 ≤ 6 * length link

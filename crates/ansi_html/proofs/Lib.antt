@@ -35,6 +35,7 @@ pub mod WriterLemmas
 pub mod PieceLemmas
 pub mod LinerLemmas
 pub mod LineTagLemmas
+pub mod AffordableLemmas
 pub mod LineLemmas
 pub mod NumberLemmas
 pub mod InsideLemmas

@@ -1,9 +1,9 @@
 -- How long HTML in lines is, and in blocks, beside the bytes of its stream. A text pays for its line too.
-use Rattle.std.proofs.Common.{◌≡◌, ◌≤◌, ℕ, suc, ◌+◌, ◌*◌, Bool, true, false, List, [], ◌∷◌, ◌++◌, codes, length, refl, ap, arith, length-append}
+use Rattle.std.proofs.Common.{◌≡◌, ◌≤◌, ℕ, suc, ◌+◌, ◌*◌, ◌-◌, Bool, true, false, List, [], ◌∷◌, ◌++◌, codes, length, refl, ap, arith, length-append}
 use Rattle.std.specs.Prelude.{nat_lt, decimal, if◌then◌else◌}
 use Rattle.std.specs.Str.{bytes_eq}
 use Rattle.std.proofs.lemmas.Fmt.{length-decimal-le}
-use Rattle.std.proofs.lemmas.Bool.{ltb-true}
+use Rattle.std.proofs.lemmas.Bool.{ltb-true, leb-true}
 use Rattle.anstyle_parse.specs.Stream.Call.{Call, print, execute, hook, put, unhook, osc_dispatch, csi_dispatch, esc_dispatch}
 use Rattle.anstyle_parse.specs.Stream.Calls.{AreCalls}
 use Rattle.ansi_strip.specs.Strip.{stripped_call}
@@ -11,11 +11,12 @@ use Rattle.ansi_style.specs.declared.style.Style.{Style}
 use Rattle.ansi_style.specs.Style.{are_equal}
 use Rattle.ansi_html.specs.declared.scheme.Styling.{Styling}
 use Rattle.ansi_html.specs.declared.scheme.Styling.TheVariants.{Inline, Classes}
-use Rattle.ansi_html.specs.Links.{is_link_command, link_of, link_after}
+use Rattle.ansi_html.specs.Affordable.{feed_counts, earned, earned_by_text, link_cost, is_paid, left_of}
 use Rattle.ansi_html.specs.Html.{span_begin, link_begin, element_end, Standing, at_start, after_text, is_executed, call_html, standing_after}
-use Rattle.ansi_html.specs.Lines.{max_number, next_number, line_begin, line_end, Lined, lined, lined_at_start, text_number, line_opening, ended, lined_call, lined_after, lined_from, lined_at_end, lined_end, lined_html, HasLinksUpTo, lined_html_of_a_byte}
+use Rattle.ansi_html.specs.Lines.{max_number, next_number, line_begin, line_end, Lined, lined, lined_at_start, text_number, line_opening, ended, going_on, after_feed, after_others, lined_call, lined_after, lined_from, lined_at_end, lined_end, lined_html, lined_html_of_a_byte}
+use Rattle.ansi_html.proofs.AffordableLemmas.{few-earned, few-earned_by_text}
 use Rattle.ansi_html.proofs.ColorLemmas.{choose}
-use Rattle.ansi_html.proofs.LengthLemmas.{AtMost, AtMost-end, AtMost-span_begin, AtMost-span_of_classes}
+use Rattle.ansi_html.proofs.LengthLemmas.{AtMost, AtMost-end, few-link_begin, AtMost-span_begin, AtMost-span_of_classes}
 use Rattle.ansi_html.proofs.BoundLemmas.{units, all_units, few-units, times-add, times-less, pending_by, pending, pending-same, Few, few-call}
 
 -- products, from the left
@@ -92,8 +93,9 @@ number-few call it few = by_case (is_executed 0x0A call) (stripped_call call)
     next = by_open it.is_open
 
     by_case : (feed : Bool) (text : List ℕ)
-        → (if feed then lined (ended (standing_after call it.at)) (text_number it) false
-        else lined (standing_after call it.at) (after_text it.number (text_number it) text) (after_text it.is_open true text)).number ≤ max_number
+        → (if feed then after_feed call it
+        else lined (standing_after call it.at) (after_text it.number (text_number it) text) (after_text it.is_open true text) (earned_by_text text it.spare)).number
+        ≤ max_number
     by_case true text = next
     by_case false [] = few
     by_case false (b ∷ text) = next
@@ -115,128 +117,117 @@ module _ (styling : Styling) (rate span : ℕ) (much : 30 ≤ rate) (four : 4 * 
       by_case true false = omega arith
       by_case false same = omega arith
 
-  module _ (limit : ℕ) where
-    -- the selected link is none that is longer
-    abbrev pub Short : Standing → Type 0
-    Short at = length (link_begin styling at.selected.link) ≤ limit
+  -- what each text pays
+  abbrev pub all_rate : ℕ
+  all_rate = 4 * rate + 281
 
-    pub short-after : (call : Call) (at : Standing) → Short at → length (link_begin styling (link_after call [])) ≤ limit → Short (standing_after call at)
-    short-after (osc_dispatch parts bell) at before here = by_case (is_link_command parts) here
-      where
-        by_case : (command : Bool) → length (link_begin styling (if command then link_of parts else [])) ≤ limit
-            → length (link_begin styling (if command then link_of parts else at.selected.link)) ≤ limit
-        by_case true here = here
-        by_case false here = before
-    short-after (print c) at before here = before
-    short-after (execute b) at before here = before
-    short-after (hook gs is ig f) at before here = before
-    short-after (put b) at before here = before
-    short-after unhook at before here = before
-    short-after (csi_dispatch gs is ig f) at before here = before
-    short-after (esc_dispatch is ig f) at before here = before
+  all_times : (n : ℕ) → rate * n + 103 * n + 100 * n ≤ all_rate * n
+  all_times n = omega (arith, less-times (rate + 203) all_rate n (omega arith), add-times rate 203 n, add-times 103 100 n)
 
-    -- what each text pays
-    abbrev all_rate : ℕ
-    all_rate = 4 * rate + 121 + limit
+  -- what is still to be written, and may be by what is spare
+  abbrev pub owed : Lined → ℕ
+  owed it = pending_at it.at + it.spare
 
-    all_times : (n : ℕ) → rate * n + 103 * n ≤ all_rate * n
-    all_times n = omega (arith, less-times (rate + 103) all_rate n (omega arith), add-times rate 103 n)
+  -- A line feed pays for the link that goes on with what is spare, but for the rest of its tag.
+  few-going_on : (at : Standing) (spare : ℕ)
+      → pending_at (going_on (is_paid spare at.selected.link) (ended at)) + left_of spare at.selected.link ≤ 3 * rate + 60 + spare
+  few-going_on at spare = by_case (is_paid spare at.selected.link) refl
+    where
+      cost : ℕ
+      cost = link_cost at.selected.link
 
-    pub short-lined : (call : Call) (it : Lined) → Short it.at → length (link_begin styling (link_after call [])) ≤ limit → Short (lined_after call it).at
-    short-lined call it short here = by_case (is_executed 0x0A call)
-      where
-        by_case : (feed : Bool)
-            → Short (if feed then lined (ended (standing_after call it.at)) (text_number it) false
-            else lined (standing_after call it.at) (after_text it.number (text_number it) (stripped_call call)) (after_text it.is_open true (stripped_call call))).at
-        by_case true = short-after call it.at short here
-        by_case false = short-after call it.at short here
+      by_case : (paid : Bool) → is_paid spare at.selected.link ≡ paid
+          → pending_at (going_on paid (ended at)) + (if paid then spare - cost else spare) ≤ 3 * rate + 60 + spare
+      by_case true e = omega (arith, pending-ended (going_on true at), few-link_begin styling at.selected.link, leb-true cost spare e)
+      by_case false e = omega (arith, pending-ended (going_on false at))
 
-    pub few-lined_call : (call : Call) (it : Lined) → it.number ≤ max_number → Short (standing_after call it.at)
-        → length (lined_call styling it call) + pending_at (lined_after call it).at ≤ pending_at it.at + all_rate * units call
-    unfolding Few AtMost
-    few-lined_call call it few short = by_case (is_executed 0x0A call) refl
-      where
-        opening : List ℕ
-        opening = line_opening it (stripped_call call)
+  pub few-lined_call : (call : Call) (it : Lined) → it.number ≤ max_number
+      → length (lined_call styling it call) + owed (lined_after call it) ≤ owed it + all_rate * units call
+  unfolding Few AtMost
+  few-lined_call call it few = by_case (is_executed 0x0A call) refl
+    where
+      opening : List ℕ
+      opening = line_opening it (stripped_call call)
 
-        text : List ℕ
-        text = call_html styling it.at call
+      text : List ℕ
+      text = call_html styling it.at call
 
-        after : Standing
-        after = standing_after call it.at
+      after : Standing
+      after = standing_after call it.at
 
-        by_case : (feed : Bool) → is_executed 0x0A call ≡ feed
-            → length (opening ++ (text ++ (if feed then element_end it.at.selected ++ line_end else [])))
-            + pending_at (if feed then lined (ended after) (text_number it) false
-            else lined after (after_text it.number (text_number it) (stripped_call call)) (after_text it.is_open true (stripped_call call))).at
-            ≤ pending_at it.at + all_rate * units call
-        by_case true feeds =
-            omega (
-              arith,
-              length-append opening (text ++ (element_end it.at.selected ++ line_end)),
-              length-append text (element_end it.at.selected ++ line_end),
-              length-append (element_end it.at.selected) line_end,
-              AtMost-end it.at.selected,
-              few-opening it call few,
-              few-call styling rate span much four spans it.at call,
-              pending-ended after,
-              short,
-              ap (λ (n : ℕ). all_rate * n) (units-feed call feeds),
-              ap (λ (n : ℕ). rate * n) (units-feed call feeds),
-              units-feed call feeds,
-            )
-        by_case false other =
-            omega (
-              arith,
-              length-append opening (text ++ []),
-              length-append text [],
-              few-opening it call few,
-              few-call styling rate span much four spans it.at call,
-              all_times (units call),
-            )
+      earns : ℕ
+      earns = earned feed_counts it.spare
 
-    few-lined : (it : Lined) (calls : List Call) → it.number ≤ max_number → Short it.at → HasLinksUpTo limit styling calls
-        → length (lined_from styling it calls) ≤ pending_at it.at + all_rate * all_units calls
-    unfolding all_units
-    few-lined it [] few short are = omega arith
-    few-lined it (call ∷ calls) few short are =
-        let after = lined_after call it in
-        omega (
-          arith,
-          length-append (lined_call styling it call) (lined_from styling after calls),
-          few-lined_call call it few (short-after call it.at short are.0),
-          few-lined after calls (number-few call it few) (short-lined call it short are.0) are.1,
-          times-add all_rate (units call) (all_units calls),
-        )
+      by_case : (feed : Bool) → is_executed 0x0A call ≡ feed
+          → length (opening ++ (text ++ (if feed then element_end it.at.selected ++ line_end else [])))
+          + owed (if feed then after_feed call it else after_others call it)
+          ≤ owed it + all_rate * units call
+      by_case true feeds =
+          omega (
+            arith,
+            length-append opening (text ++ (element_end it.at.selected ++ line_end)),
+            length-append text (element_end it.at.selected ++ line_end),
+            length-append (element_end it.at.selected) line_end,
+            AtMost-end it.at.selected,
+            few-opening it call few,
+            few-call styling rate span much four spans it.at call,
+            few-going_on after (earned feed_counts it.spare),
+            few-earned feed_counts it.spare,
+            ap (λ (n : ℕ). all_rate * n) (units-feed call feeds),
+            ap (λ (n : ℕ). rate * n) (units-feed call feeds),
+            units-feed call feeds,
+          )
+      by_case false other =
+          omega (
+            arith,
+            length-append opening (text ++ []),
+            length-append text [],
+            few-opening it call few,
+            few-call styling rate span much four spans it.at call,
+            few-earned_by_text call it.spare,
+            all_times (units call),
+          )
 
-    pub few-end : (it : Lined) → length (lined_end it) ≤ 18
-    unfolding AtMost
-    few-end it =
-        omega (
-          arith,
-          length-append (element_end it.at.shown) (if it.is_open then line_end else []),
-          AtMost-end it.at.shown,
-          choose (λ l. length l ≤ 7) it.is_open line_end [] (omega arith) (omega arith),
-        )
+  few-lined : (it : Lined) (calls : List Call) → it.number ≤ max_number
+      → length (lined_from styling it calls) ≤ owed it + all_rate * all_units calls
+  unfolding all_units
+  few-lined it [] few = omega arith
+  few-lined it (call ∷ calls) few =
+      let after = lined_after call it in
+      omega (
+        arith,
+        length-append (lined_call styling it call) (lined_from styling after calls),
+        few-lined_call call it few,
+        few-lined after calls (number-few call it few),
+        times-add all_rate (units call) (all_units calls),
+      )
 
-    few-lined_html : (bytes : List ℕ) (calls : List Call) → AreCalls bytes calls → HasLinksUpTo limit styling calls
-        → length (lined_html styling calls) ≤ all_rate * length bytes + 18
-    few-lined_html bytes calls are links =
-        let last = lined_end (lined_at_end lined_at_start calls) in
-        omega (
-          arith,
-          length-append (lined_from styling lined_at_start calls) last,
-          few-lined lined_at_start calls (omega arith) (omega arith) links,
-          pending-same styling rate span much four spans at_start.shown false,
-          times-less all_rate (all_units calls) (length bytes) (few-units bytes calls are),
-          few-end (lined_at_end lined_at_start calls),
-        )
+  pub few-end : (it : Lined) → length (lined_end it) ≤ 18
+  unfolding AtMost
+  few-end it =
+      omega (
+        arith,
+        length-append (element_end it.at.shown) (if it.is_open then line_end else []),
+        AtMost-end it.at.shown,
+        choose (λ l. length l ≤ 7) it.is_open line_end [] (omega arith) (omega arith),
+      )
 
--- The HTML in lines of a stream of whose links none has a longer tag.
-pub length-lined_html : (styling : Styling) (limit : ℕ) (bytes : List ℕ) (calls : List Call) → AreCalls bytes calls → HasLinksUpTo limit styling calls
-    → length (lined_html styling calls) ≤ (lined_html_of_a_byte styling + limit) * length bytes + 18
+  few-lined_html : (bytes : List ℕ) (calls : List Call) → AreCalls bytes calls → length (lined_html styling calls) ≤ all_rate * length bytes + 18
+  few-lined_html bytes calls are =
+      let last = lined_end (lined_at_end lined_at_start calls) in
+      omega (
+        arith,
+        length-append (lined_from styling lined_at_start calls) last,
+        few-lined lined_at_start calls (omega arith),
+        pending-same styling rate span much four spans at_start.shown false,
+        times-less all_rate (all_units calls) (length bytes) (few-units bytes calls are),
+        few-end (lined_at_end lined_at_start calls),
+      )
+
+-- The HTML in lines of a stream.
+pub length-lined_html : (styling : Styling) (bytes : List ℕ) (calls : List Call) → AreCalls bytes calls
+    → length (lined_html styling calls) ≤ lined_html_of_a_byte styling * length bytes + 18
 unfolding AtMost
-length-lined_html (Inline scheme) limit bytes calls are links =
-    few-lined_html (Inline scheme) 74 275 (omega arith) refl (λ style. AtMost-span_begin (Inline scheme) style) limit bytes calls are links
-length-lined_html Classes limit bytes calls are links =
-    few-lined_html Classes 35 119 (omega arith) refl AtMost-span_of_classes limit bytes calls are links
+length-lined_html (Inline scheme) bytes calls are =
+    few-lined_html (Inline scheme) 74 275 (omega arith) refl (λ style. AtMost-span_begin (Inline scheme) style) bytes calls are
+length-lined_html Classes bytes calls are = few-lined_html Classes 35 119 (omega arith) refl AtMost-span_of_classes bytes calls are

@@ -1,6 +1,6 @@
 -- HTML in lines: a reader sees what it sees of the HTML without them; it has no 0D, and is UTF-8.
 use Rattle.std.proofs.Common.{◌≡◌, ℕ, Bool, true, false, List, [], ◌∷◌, ◌++◌, codes, map, refl, sym, ap, ap₂, ◌∙◌, append_assoc, append-nil}
-use Rattle.std.specs.Prelude.{if◌then◌else◌}
+use Rattle.std.specs.Prelude.{not, ◌&&◌, if◌then◌else◌}
 use Rattle.std.specs.List.{flat_map}
 use Rattle.std.specs.Str.{IsUtf8}
 use Rattle.std.proofs.lemmas.Bool.{eqb-true}
@@ -9,13 +9,16 @@ use Rattle.anstyle_parse.specs.Stream.Call.{Call, print, execute, hook, put, unh
 use Rattle.ansi_strip.specs.Strip.{stripped_call, stripped}
 use Rattle.ansi_strip.proofs.Showable.{IsShowable, AreShowable}
 use Rattle.ansi_html.specs.declared.scheme.Styling.{Styling}
-use Rattle.ansi_html.specs.Html.{Element, no_element, element_end, Standing, after_text, is_executed, call_html, standing_after, html}
-use Rattle.ansi_html.specs.Lines.{line_begin, line_end, next_number, Lined, lined, text_number, lined_at_start, line_opening, line_closing, ended, lined_call, lined_after, lined_from, lined_at_end, lined_end, lined_html}
+use Rattle.ansi_html.specs.Links.{link_after}
+use Rattle.ansi_html.specs.Affordable.{earned, feed_counts, earned_by_text, is_paid, link_paid, left_of, spare_after, link_kept, end_of_link, end_unpaid, affordable_from, affordable}
+use Rattle.ansi_html.specs.Html.{Element, element, no_element, element_end, Standing, after_text, is_executed, call_html, standing_after, html}
+use Rattle.ansi_html.specs.Lines.{line_begin, line_end, next_number, Lined, lined_at_start, line_opening, line_closing, ended, going_on, after_feed, after_others, lined_call, lined_after, lined_from, lined_at_end, lined_end, lined_html}
 use Rattle.ansi_html.specs.Reader.{Attributes, no_attributes, in_force, within, Seen, seen_from, seen, in_text, read_of, read, byte_of, shown_from}
+use Rattle.ansi_html.proofs.AffordableLemmas.{link-ended, stripped-affordable}
 use Rattle.ansi_html.proofs.ColorLemmas.{choose}
 use Rattle.ansi_html.proofs.NewlineLemmas.{is_not_return, HasNoReturn, HasNoReturn-append, HasNoReturn-text, HasNoReturn-end, normalized-same}
 use Rattle.ansi_html.proofs.TextLemmas.{IsUtf8-text_html, IsUtf8-stripped, IsUtf8-end, IsUtf8-ascii}
-use Rattle.ansi_html.proofs.SoundLemmas.{AreSound, AreSound-start, AreSound-after, IsSound-none}
+use Rattle.ansi_html.proofs.SoundLemmas.{IsSound, AreSound, AreSound-start, AreSound-after, IsSound-none}
 use Rattle.ansi_html.proofs.ReadLemmas.{seen_text, seen_calls, open_in, open-none, seen-text, seen-element_end, seen-html, read-html, text-html}
 use Rattle.ansi_html.proofs.LineTagLemmas.{in_line, seen-line_begin, HasNoReturn-line_begin, IsUtf8-line_begin}
 
@@ -26,14 +29,6 @@ around_text outer is_open = if is_open then in_line outer else outer
 pub outermost : (outer : List Attributes) → in_force outer ≡ no_attributes → (is_open : Bool) → in_force (around_text outer is_open) ≡ no_attributes
 outermost outer nothing true = ap (λ (it : Attributes). within it no_attributes) nothing
 outermost outer nothing false = nothing
-
--- where a line feed leads, and other calls
-abbrev after_feed : Call → Lined → Lined
-after_feed call it = lined (ended (standing_after call it.at)) (text_number it) false
-
-abbrev after_others : Call → Lined → Lined
-after_others call it =
-    lined (standing_after call it.at) (after_text it.number (text_number it) (stripped_call call)) (after_text it.is_open true (stripped_call call))
 
 -- what is seen of calls does not depend on the element of the text before them
 seen_text-ended : (styling : Styling) (shown : Element) (at : Standing) (is_line_feed : Bool) (bytes : List ℕ)
@@ -156,16 +151,66 @@ module _ (styling : Styling) where
       by_case true = λ none. refl
       by_case false = λ none. closed-text it (stripped_call call) closed none
 
+  -- Where a line feed leads, what is seen of calls is what is seen of them after the command that ends the link, where that
+  -- can't pay.
+  seen_calls-feed : (at : Standing) (paid : Bool) (calls : List Call)
+      → seen_calls styling (going_on paid (ended at)) calls ≡ seen_calls styling at ((if not paid then end_of_link ∷ [] else []) ++ calls)
+  seen_calls-feed at true calls = seen_calls-ended styling no_element at calls
+  seen_calls-feed at false calls =
+      seen_calls-ended styling no_element (going_on false at) calls
+      ∙ ap (λ link. seen_calls styling (record { shown = at.shown; selected = element at.selected.style link; returned = at.returned }) calls) (sym link-ended)
+
   pub seen_calls-after : (call : Call) (it : Lined) (calls : List Call)
-      → seen_calls styling (lined_after call it).at calls ≡ seen_calls styling (standing_after call it.at) calls
+      → seen_calls styling (lined_after call it).at calls
+      ≡ seen_calls styling (standing_after call it.at) (end_unpaid call it.spare it.at.selected.link ++ calls)
   seen_calls-after call it calls = by_case (is_executed 0x0A call)
     where
-      by_case : (feed : Bool) → seen_calls styling (if feed then after_feed call it else after_others call it).at calls ≡ seen_calls styling (standing_after call it.at) calls
-      by_case true = seen_calls-ended styling no_element (standing_after call it.at) calls
+      paid : Bool
+      paid = is_paid (earned feed_counts it.spare) (link_after call it.at.selected.link)
+
+      by_case : (feed : Bool)
+          → seen_calls styling (if feed then after_feed call it else after_others call it).at calls
+          ≡ seen_calls styling (standing_after call it.at) ((if feed && not paid then end_of_link ∷ [] else []) ++ calls)
+      by_case true = seen_calls-feed (standing_after call it.at) paid calls
       by_case false = refl
 
+  -- what is spare after a call, and the link that is then selected
+  pub affordable-after : (call : Call) (it : Lined) (calls : List Call)
+      → affordable_from (lined_after call it).spare (lined_after call it).at.selected.link calls
+      ≡ affordable_from (spare_after call it.spare it.at.selected.link) (link_kept call it.spare it.at.selected.link) calls
+  affordable-after call it calls = ap₂ (λ spare link. affordable_from spare link calls) (spare (is_executed 0x0A call)) (link (is_executed 0x0A call))
+    where
+      after : Bool → Lined
+      after feed = if feed then after_feed call it else after_others call it
+
+      earns : ℕ
+      earns = earned feed_counts it.spare
+
+      next : List ℕ
+      next = link_after call it.at.selected.link
+
+      spare : (feed : Bool) → (after feed).spare ≡ (if feed then left_of earns next else earned_by_text (stripped_call call) it.spare)
+      spare true = refl
+      spare false = refl
+
+      link : (feed : Bool) → (after feed).at.selected.link ≡ (if feed then link_paid earns next else next)
+      link true = refl
+      link false = refl
+
+  -- the calls whose links can pay, from where HTML in lines stands
+  abbrev pub paid_from : Lined → List Call → List Call
+  paid_from it calls = affordable_from it.spare it.at.selected.link calls
+
+  pub seen-paid : (call : Call) (it : Lined) (calls : List Call)
+      → seen_calls styling (lined_after call it).at (paid_from (lined_after call it) calls)
+      ≡ seen_calls styling (standing_after call it.at) (end_unpaid call it.spare it.at.selected.link
+      ++ affordable_from (spare_after call it.spare it.at.selected.link) (link_kept call it.spare it.at.selected.link) calls)
+  seen-paid call it calls =
+      ap (seen_calls styling (lined_after call it).at) (affordable-after call it calls)
+      ∙ seen_calls-after call it (affordable_from (spare_after call it.spare it.at.selected.link) (link_kept call it.spare it.at.selected.link) calls)
+
   seen-lined : (it : Lined) (calls : List Call) → IsClosed it
-      → seen_at styling [] it (lined_from styling it calls ++ lined_end (lined_at_end it calls)) ≡ seen_calls styling it.at calls
+      → seen_at styling [] it (lined_from styling it calls ++ lined_end (lined_at_end it calls)) ≡ seen_calls styling it.at (paid_from it calls)
   seen-lined it [] closed = ap (seen_at styling [] it) (sym (append-nil (lined_end it))) ∙ seen-lined_end styling [] it []
   seen-lined it (call ∷ calls) closed =
       let after = lined_after call it in
@@ -173,7 +218,7 @@ module _ (styling : Styling) where
       ap (seen_at styling [] it) (append_assoc (lined_call styling it call) (lined_from styling after calls) (lined_end (lined_at_end after calls)))
       ∙ seen-lined_call styling [] refl it call rest closed
       ∙ ap (λ l. seen_text styling it.at (is_executed 0x0A call) (stripped_call call) ++ l)
-      (seen-lined after calls (closed-after call it closed) ∙ seen_calls-after call it calls)
+      (seen-lined after calls (closed-after call it closed) ∙ seen-paid call it calls)
 
   -- None of it is 0D.
   HasNoReturn-opening : (it : Lined) (bytes : List ℕ) → HasNoReturn (line_opening it bytes)
@@ -204,22 +249,23 @@ module _ (styling : Styling) where
   HasNoReturn-lined_end it =
       HasNoReturn-append (element_end it.at.shown) (if it.is_open then line_end else []) (HasNoReturn-end it.at.shown) (choose HasNoReturn it.is_open line_end [] refl refl)
 
-  -- A reader sees what it sees of the HTML without lines,
-  pub seen-lined_html : (calls : List Call) → seen (lined_html styling calls) ≡ seen (html styling calls)
+  -- A reader sees what it sees of the HTML without lines of the calls whose links can pay,
+  pub seen-lined_html : (calls : List Call) → seen (lined_html styling calls) ≡ seen (html styling (affordable calls))
   seen-lined_html calls =
       let last = lined_at_end lined_at_start calls in
       ap (seen_from (in_text [])) (normalized-same (lined_html styling calls)
       (HasNoReturn-append (lined_from styling lined_at_start calls) (lined_end last) (HasNoReturn-lined lined_at_start calls) (HasNoReturn-lined_end last)))
       ∙ ap (λ opened. seen_from (in_text opened) (lined_html styling calls)) (sym (open-none styling []))
       ∙ seen-lined lined_at_start calls (λ none. refl)
-      ∙ sym (seen-html styling calls)
+      ∙ sym (seen-html styling (affordable calls))
 
-  -- and reads it.
-  pub read-lined_html : (calls : List Call) → read (lined_html styling calls) ≡ shown_from styling no_element calls
-  read-lined_html calls = ap (flat_map read_of) (seen-lined_html calls) ∙ read-html styling calls
+  -- and reads it; its text is that of the stream.
+  pub read-lined_html : (calls : List Call) → read (lined_html styling calls) ≡ shown_from styling no_element (affordable calls)
+  read-lined_html calls = ap (flat_map read_of) (seen-lined_html calls) ∙ read-html styling (affordable calls)
 
   pub text-lined_html : (calls : List Call) → map byte_of (read (lined_html styling calls)) ≡ stripped calls
-  text-lined_html calls = ap (λ seen. map byte_of (flat_map read_of seen)) (seen-lined_html calls) ∙ text-html styling calls
+  text-lined_html calls =
+      ap (λ seen. map byte_of (flat_map read_of seen)) (seen-lined_html calls) ∙ text-html styling (affordable calls) ∙ stripped-affordable calls
 
   -- It is UTF-8.
   IsUtf8-opening : (it : Lined) (bytes : List ℕ) → IsUtf8 (line_opening it bytes)
@@ -241,7 +287,9 @@ module _ (styling : Styling) where
       after = AreSound-after call it.at sound
 
       by_case : (feed : Bool) → AreSound (if feed then after_feed call it else after_others call it).at
-      by_case true = record { shown = IsSound-none; selected = after.selected }
+      by_case true =
+          let paid = is_paid (earned feed_counts it.spare) (link_after call it.at.selected.link) in
+          record { shown = IsSound-none; selected = choose IsSound paid (link_after call it.at.selected.link) [] after.selected IsSound-none }
       by_case false = after
 
   pub IsUtf8-lined_call : (it : Lined) (call : Call) → AreSound it.at → IsShowable call → IsUtf8 (lined_call styling it call)

@@ -1,6 +1,6 @@
 -- What a writer of HTML in lines does by a call, from what the writer within it does.
-use Rattle.std.proofs.Common.{◌≡◌, ◌<◌, ℕ, Bool, true, false, eqb, List, [], ◌∷◌, ◌++◌, codes, length, map, refl, sym, ap, ap₂, ◌∙◌, subst, append_assoc, append-nil, arith}
-use Rattle.std.specs.Prelude.{if◌then◌else◌}
+use Rattle.std.proofs.Common.{◌≡◌, ◌<◌, ℕ, Bool, true, false, eqb, List, [], ◌∷◌, ◌++◌, codes, length, map, refl, sym, ap, ap₂, ◌∙◌, subst, append_assoc, append-nil, arith, length-append}
+use Rattle.std.specs.Prelude.{encode_utf8, if◌then◌else◌}
 use Rattle.std.specs.Str.{IsUtf8, chars, encode_utf8_all}
 use Rattle.std.proofs.lemmas.Str.{encodes-chars}
 use Rattle.anstyle_parse.specs.declared.io.devices.Sink.{Ghosts as SinkOf}
@@ -15,10 +15,12 @@ use Rattle.ansi_style.proofs.EqualityLemmas.{are_equal-refl}
 use Rattle.ansi_html.specs.declared.scheme.Styling.{Styling}
 use Rattle.ansi_html.specs.declared.performer.HtmlWriter.{HtmlWriter}
 use Rattle.ansi_html.specs.declared.lines.LinesWriter.{LinesWriter}
+use Rattle.ansi_html.specs.Affordable.{feed_counts, earned, earned_by_text, is_paid, left_of}
 use Rattle.ansi_html.specs.Html.{no_element, element_end, Standing, after_text, is_executed, call_html, standing_after, html_from, standing_at_end}
-use Rattle.ansi_html.specs.Lines.{line_end, Lined, lined, text_number, before_text, line_closing, ended, lined_call, lined_after, lined_from, lined_at_end}
+use Rattle.ansi_html.specs.Lines.{line_end, Lined, lined, text_number, before_text, line_closing, ended, going_on, line_ended, after_feed, after_others, lined_call, lined_after, lined_from, lined_at_end}
 use Rattle.ansi_html.specs.Writer as writer
 use Rattle.ansi_html.specs.Liner.{output_of, styling_of, lined_of, TakesCall, TakesCalls}
+use Rattle.ansi_html.proofs.AffordableLemmas.{earned-more}
 use Rattle.ansi_html.proofs.HtmlLemmas.{after_text-some, call_html-other, standing_after-other}
 
 -- what ends no element
@@ -34,28 +36,44 @@ module _ (styling : Styling) (it : Lined) (call : Call) (other : is_executed 0x0
       (after_text-some [] (before_text it) (stripped_call call) some) other
       ∙ ap (λ l. before_text it ++ l) (append-nil text)
 
-  pub lined_after-text : lined_after call it ≡ lined (standing_after call it.at) (text_number it) true
+  pub lined_after-text : lined_after call it ≡ lined (standing_after call it.at) (text_number it) true (earned (length (stripped_call call)) it.spare)
   lined_after-text =
       let bytes = stripped_call call in
       let at = standing_after call it.at in
-      ap (λ (feed : Bool). if feed then lined (ended at) (text_number it) false else lined at (after_text it.number (text_number it) bytes) (after_text it.is_open true bytes)) other
-      ∙ ap₂ (λ (number : ℕ) (is_open : Bool). lined at number is_open) (after_text-some it.number (text_number it) bytes some) (after_text-some it.is_open true bytes some)
+      let earns = earned (length bytes) it.spare in
+      ap (λ (feed : Bool). if feed then after_feed call it else after_others call it) other
+      ∙ ap₂ (λ (number : ℕ) (is_open : Bool). lined at number is_open (earned_by_text bytes it.spare)) (after_text-some it.number (text_number it) bytes some) (after_text-some it.is_open true bytes some)
+      ∙ ap (lined at (text_number it) true) (after_text-some it.spare earns bytes some)
 
 -- printed characters, in a line that is open, and in any
 module _ (styling : Styling) where
-  lined_from-open : (number : ℕ) (at : Standing) (cs : List ℕ) → lined_from styling (lined at number true) (map print cs) ≡ html_from styling at (map print cs)
-  lined_from-open number at [] = refl
-  lined_from-open number at (c ∷ cs) =
-      let it = lined at number true in
+  lined_from-open : (number spare : ℕ) (at : Standing) (cs : List ℕ) → lined_from styling (lined at number true spare) (map print cs) ≡ html_from styling at (map print cs)
+  lined_from-open number spare at [] = refl
+  lined_from-open number spare at (c ∷ cs) =
+      let it = lined at number true spare in
       ap₂ (λ text after. text ++ lined_from styling after (map print cs))
       (lined_call-text styling it (print c) refl (length-encode-some c)) (lined_after-text styling it (print c) refl (length-encode-some c))
-      ∙ ap (λ l. call_html styling at (print c) ++ l) (lined_from-open number (standing_after (print c) at) cs)
+      ∙ ap (λ l. call_html styling at (print c) ++ l) (lined_from-open number (earned (length (encode_utf8 c)) spare) (standing_after (print c) at) cs)
 
-  lined_at_end-open : (number : ℕ) (at : Standing) (cs : List ℕ) → lined_at_end (lined at number true) (map print cs) ≡ lined (standing_at_end at (map print cs)) number true
-  lined_at_end-open number at [] = refl
-  lined_at_end-open number at (c ∷ cs) =
-      ap (λ after. lined_at_end after (map print cs)) (lined_after-text styling (lined at number true) (print c) refl (length-encode-some c))
-      ∙ lined_at_end-open number (standing_after (print c) at) cs
+  -- what is spare after a character and others is what is spare after both
+  earned-characters : (c spare : ℕ) (cs : List ℕ)
+      → earned_by_text (encode_utf8_all cs) (earned (length (encode_utf8 c)) spare) ≡ earned (length (encode_utf8_all (c ∷ cs))) spare
+  earned-characters c spare cs =
+      earned-more (length (encode_utf8 c)) spare (encode_utf8_all cs)
+      ∙ ap (λ n. earned n spare) (sym (length-append (encode_utf8 c) (encode_utf8_all cs)))
+
+  some-characters : (c : ℕ) (cs : List ℕ) → 0 < length (encode_utf8_all (c ∷ cs))
+  some-characters c cs = omega (arith, length-append (encode_utf8 c) (encode_utf8_all cs), length-encode-some c)
+
+  lined_at_end-open : (number spare : ℕ) (at : Standing) (cs : List ℕ)
+      → lined_at_end (lined at number true spare) (map print cs) ≡ lined (standing_at_end at (map print cs)) number true (earned_by_text (encode_utf8_all cs) spare)
+  lined_at_end-open number spare at [] = refl
+  lined_at_end-open number spare at (c ∷ cs) =
+      let after = standing_after (print c) at in
+      ap (λ it. lined_at_end it (map print cs)) (lined_after-text styling (lined at number true spare) (print c) refl (length-encode-some c))
+      ∙ lined_at_end-open number (earned (length (encode_utf8 c)) spare) after cs
+      ∙ ap (lined (standing_at_end after (map print cs)) number true)
+      (earned-characters c spare cs ∙ sym (after_text-some spare (earned (length (encode_utf8_all (c ∷ cs))) spare) (encode_utf8_all (c ∷ cs)) (some-characters c cs)))
 
   lined_from-prints : (it : Lined) (cs : List ℕ) → 0 < length (encode_utf8_all cs) → lined_from styling it (map print cs) ≡ before_text it ++ html_from styling it.at (map print cs)
   lined_from-prints it [] some = absurd (omega arith)
@@ -64,15 +82,17 @@ module _ (styling : Styling) where
       let after = standing_after (print c) it.at in
       ap₂ (λ here next. here ++ lined_from styling next (map print cs))
       (lined_call-text styling it (print c) refl (length-encode-some c)) (lined_after-text styling it (print c) refl (length-encode-some c))
-      ∙ ap (λ l. (before_text it ++ text) ++ l) (lined_from-open (text_number it) after cs)
+      ∙ ap (λ l. (before_text it ++ text) ++ l) (lined_from-open (text_number it) (earned (length (encode_utf8 c)) it.spare) after cs)
       ∙ append_assoc (before_text it) text (html_from styling after (map print cs))
 
   lined_at_end-prints : (it : Lined) (cs : List ℕ) → 0 < length (encode_utf8_all cs)
-      → lined_at_end it (map print cs) ≡ lined (standing_at_end it.at (map print cs)) (text_number it) true
+      → lined_at_end it (map print cs) ≡ lined (standing_at_end it.at (map print cs)) (text_number it) true (earned (length (encode_utf8_all cs)) it.spare)
   lined_at_end-prints it [] some = absurd (omega arith)
   lined_at_end-prints it (c ∷ cs) some =
-      ap (λ after. lined_at_end after (map print cs)) (lined_after-text styling it (print c) refl (length-encode-some c))
-      ∙ lined_at_end-open (text_number it) (standing_after (print c) it.at) cs
+      let after = standing_after (print c) it.at in
+      ap (λ next. lined_at_end next (map print cs)) (lined_after-text styling it (print c) refl (length-encode-some c))
+      ∙ lined_at_end-open (text_number it) (earned (length (encode_utf8 c)) it.spare) after cs
+      ∙ ap (lined (standing_at_end after (map print cs)) (text_number it) true) (earned-characters c it.spare cs)
 
   -- a text
   module _ (it : Lined) (text : List ℕ) (utf8 : IsUtf8 text) (some : 0 < length text) where
@@ -82,8 +102,10 @@ module _ (styling : Styling) where
     pub lined_from-text : lined_from styling it (text_calls text) ≡ before_text it ++ html_from styling it.at (text_calls text)
     lined_from-text = lined_from-prints it (chars text) some_characters
 
-    pub lined_at_end-text : lined_at_end it (text_calls text) ≡ lined (standing_at_end it.at (text_calls text)) (text_number it) true
-    lined_at_end-text = lined_at_end-prints it (chars text) some_characters
+    pub lined_at_end-text : lined_at_end it (text_calls text) ≡ lined (standing_at_end it.at (text_calls text)) (text_number it) true (earned (length text) it.spare)
+    lined_at_end-text =
+        lined_at_end-prints it (chars text) some_characters
+        ∙ ap (λ l. lined (standing_at_end it.at (text_calls text)) (text_number it) true (earned (length l) it.spare)) (encodes-chars text utf8)
 
 -- a control that is no text
 module _ (styling : Styling) (it : Lined) (b : ℕ) (other : eqb b 0x0A ≡ false) (no : is_layout b ≡ false) where
@@ -97,19 +119,28 @@ module _ (styling : Styling) (it : Lined) (b : ℕ) (other : eqb b 0x0A ≡ fals
 
   pub lined_after-control : lined_after (execute b) it ≡ it
   lined_after-control =
-      let bytes = stripped_call (execute b) in
-      let at = standing_after (execute b) it.at in
-      ap (λ (feed : Bool). if feed then lined (ended at) (text_number it) false else lined at (after_text it.number (text_number it) bytes) (after_text it.is_open true bytes)) other
-      ∙ ap₂ (λ (after : Standing) (text : List ℕ). lined after (after_text it.number (text_number it) text) (after_text it.is_open true text))
+      ap (λ (feed : Bool). if feed then after_feed (execute b) it else after_others (execute b) it) other
+      ∙ ap₂ (λ (after : Standing) (text : List ℕ). lined after (after_text it.number (text_number it) text) (after_text it.is_open true text) (earned_by_text text it.spare))
       (standing_after-other styling it.at b no) no_text
 
--- A writer that has begun a line where none was open, for text.
-pub record Begins {W : Type 0} (sink : SinkOf W) (old begun : LinesWriter W) : Type 0 where
+-- A writer that has begun a line where none was open, for text of so many bytes.
+pub record Begins {W : Type 0} (sink : SinkOf W) (count : ℕ) (old begun : LinesWriter W) : Type 0 where
   pub styling : styling_of begun ≡ styling_of old
-  pub standing : lined_of begun ≡ lined (lined_of old).at (text_number (lined_of old)) true
+  pub standing : lined_of begun ≡ lined (lined_of old).at (text_number (lined_of old)) true (earned count (lined_of old).spare)
   pub added : Adds sink (before_text (lined_of old)) (output_of old) (output_of begun)
 
-module _ {W : Type 0} (sink : SinkOf W) (old begun : LinesWriter W) (begins : Begins sink old begun) where
+-- where a link that is selected goes on if that is paid
+abbrev pub paying : Lined → Lined
+paying it =
+    lined (going_on (is_paid it.spare it.at.selected.link) it.at) it.number it.is_open (left_of it.spare it.at.selected.link)
+
+-- A writer whose link has paid to go on, or has ended.
+pub record Pays {W : Type 0} (old new : LinesWriter W) : Type 0 where
+  pub output : output_of new ≡ output_of old
+  pub styling : styling_of new ≡ styling_of old
+  pub standing : lined_of new ≡ paying (lined_of old)
+
+module _ {W : Type 0} (sink : SinkOf W) (count : ℕ) (old begun : LinesWriter W) (begins : Begins sink count old begun) where
   abbrev it : Lined
   it = lined_of old
 
@@ -118,45 +149,51 @@ module _ {W : Type 0} (sink : SinkOf W) (old begun : LinesWriter W) (begins : Be
   at-begun = ap (λ (l : Lined). l.at) begins.standing
 
   -- It takes a call,
-  pub TakesCall-text : (call : Call) → is_executed 0x0A call ≡ false → 0 < length (stripped_call call) → (html : HtmlWriter W)
+  pub TakesCall-text : (call : Call) → is_executed 0x0A call ≡ false → 0 < length (stripped_call call) → count ≡ length (stripped_call call) → (html : HtmlWriter W)
       → writer.Takes sink begun.html call html → TakesCall sink old call (record begun { html = html })
-  TakesCall-text call other some html takes = record {
+  TakesCall-text call other some counted html takes = record {
     styling = takes.styling ∙ begins.styling;
-    standing = ap (λ at. lined at begun.number begun.is_open) takes.standing
-        ∙ ap (λ (l : Lined). lined (standing_after call l.at) l.number l.is_open) begins.standing
+    standing = ap (λ at. lined at begun.number begun.is_open begun.spare) takes.standing
+        ∙ ap (λ (l : Lined). lined (standing_after call l.at) l.number l.is_open l.spare) begins.standing
+        ∙ ap (λ n. lined (standing_after call it.at) (text_number it) true (earned n it.spare)) counted
         ∙ sym (lined_after-text (styling_of old) it call other some);
     added = subst (λ t. Adds sink t (output_of old) (writer.output_of html))
         (ap₂ (λ styling at. before_text it ++ call_html styling at call) begins.styling at-begun ∙ sym (lined_call-text (styling_of old) it call other some))
         (Adds-append sink (before_text it) (call_html (styling_of begun) (writer.standing_of begun.html) call) (output_of old) (output_of begun) (writer.output_of html) begins.added takes.added);
   }
 
-  -- a line feed, after which the line ends,
-  pub TakesCall-feed : (html closed : HtmlWriter W) → writer.Takes sink begun.html (execute 0x0A) html
+  -- a line feed, after which the line ends, and its link goes on or ends,
+  pub TakesCall-feed : count ≡ feed_counts → (html closed : HtmlWriter W) → writer.Takes sink begun.html (execute 0x0A) html
       → writer.styling_of closed ≡ writer.styling_of html → writer.standing_of closed ≡ ended (writer.standing_of html)
       → Adds sink (element_end (writer.standing_of html).shown ++ line_end) (writer.output_of html) (writer.output_of closed)
-      → TakesCall sink old (execute 0x0A) (record begun { html = closed; is_open = false })
-  TakesCall-feed html closed takes same ends closes =
+      → (new : LinesWriter W) → Pays (record begun { html = closed; is_open = false }) new
+      → TakesCall sink old (execute 0x0A) new
+  TakesCall-feed counted html closed takes same ends closes new pays =
       let feed = execute 0x0A in
       let after = takes.standing ∙ ap (standing_after feed) at-begun in
       let text = call_html (styling_of begun) (writer.standing_of begun.html) feed in
       let close = element_end (writer.standing_of html).shown ++ line_end in
       record {
-        styling = same ∙ takes.styling ∙ begins.styling;
-        standing = ap₂ (λ at number. lined at number false) (ends ∙ ap ended after) (ap (λ (l : Lined). l.number) begins.standing);
-        added = subst (λ t. Adds sink t (output_of old) (writer.output_of closed))
+        styling = pays.styling ∙ same ∙ takes.styling ∙ begins.styling;
+        standing = pays.standing
+            ∙ ap₂ (λ at (l : Lined). paying (lined at l.number false l.spare)) (ends ∙ ap ended after) begins.standing
+            ∙ ap (λ n. line_ended (standing_after feed it.at) (text_number it) (earned n it.spare)) counted;
+        added = subst (λ output. Adds sink (lined_call (styling_of old) it feed) (output_of old) output) (sym pays.output)
+            (subst (λ t. Adds sink t (output_of old) (writer.output_of closed))
             (ap₂ (λ styling at. before_text it ++ (call_html styling at feed ++ close)) begins.styling at-begun
             ∙ ap (λ (at : Standing). before_text it ++ (call_html (styling_of old) it.at feed ++ (element_end at.shown ++ line_end))) after)
             (Adds-append sink (before_text it) (text ++ close) (output_of old) (output_of begun) (writer.output_of closed) begins.added
-            (Adds-append sink text close (output_of begun) (writer.output_of html) (writer.output_of closed) takes.added closes));
+            (Adds-append sink text close (output_of begun) (writer.output_of html) (writer.output_of closed) takes.added closes)));
       }
 
   -- and a text.
-  pub TakesCalls-text : (text : List ℕ) → IsUtf8 text → 0 < length text → (html : HtmlWriter W)
+  pub TakesCalls-text : (text : List ℕ) → IsUtf8 text → 0 < length text → count ≡ length text → (html : HtmlWriter W)
       → writer.TakesAll sink begun.html (text_calls text) html → TakesCalls sink old (text_calls text) (record begun { html = html })
-  TakesCalls-text text utf8 some html takes = record {
+  TakesCalls-text text utf8 some counted html takes = record {
     styling = takes.styling ∙ begins.styling;
-    standing = ap (λ at. lined at begun.number begun.is_open) takes.standing
-        ∙ ap (λ (l : Lined). lined (standing_at_end l.at (text_calls text)) l.number l.is_open) begins.standing
+    standing = ap (λ at. lined at begun.number begun.is_open begun.spare) takes.standing
+        ∙ ap (λ (l : Lined). lined (standing_at_end l.at (text_calls text)) l.number l.is_open l.spare) begins.standing
+        ∙ ap (λ n. lined (standing_at_end it.at (text_calls text)) (text_number it) true (earned n it.spare)) counted
         ∙ sym (lined_at_end-text (styling_of old) it text utf8 some);
     added = subst (λ t. Adds sink t (output_of old) (writer.output_of html))
         (ap₂ (λ styling at. before_text it ++ html_from styling at (text_calls text)) begins.styling at-begun ∙ sym (lined_from-text (styling_of old) it text utf8 some))

@@ -9,8 +9,8 @@ use Rattle.anstyle_parse.specs.Stream.Call.{Call, print, execute, hook, put, unh
 use Rattle.ansi_strip.specs.Strip.{is_layout, stripped_call}
 use Rattle.ansi_strip.proofs.Showable.{IsShowable, AreShowable}
 use Rattle.ansi_html.specs.declared.scheme.Styling.{Styling}
-use Rattle.ansi_html.specs.Html.{Element, no_element, element_end, Standing, after_text, text_html, is_executed, call_html, standing_after}
-use Rattle.ansi_html.specs.Lines.{line_begin, line_end, next_number, Lined, lined, text_number, lined_at_start, line_opening, line_closing, ended, lined_after, lined_from, lined_at_end, lined_end, lined_html, is_no_feed, HasNoLineFeed, text_in, AreLines, no_line, line, last}
+use Rattle.ansi_html.specs.Html.{Element, no_element, element_end, Standing, after_text, text_html, is_executed, call_html}
+use Rattle.ansi_html.specs.Lines.{line_begin, line_end, next_number, Lined, text_number, lined_at_start, line_opening, line_closing, lined_after, lined_from, lined_at_end, lined_end, lined_html, is_no_feed, HasNoLineFeed, text_in, AreLines, no_line, line, last, after_feed, after_others}
 use Rattle.ansi_html.specs.Grammar.{IsFragment}
 use Rattle.ansi_html.specs.Reader.{attributes_of, in_text, seen_from, read_of, byte_of}
 use Rattle.ansi_html.proofs.NewlineLemmas.{HasNoReturn, HasNoReturn-append, HasNoReturn-text, HasNoReturn-end, normalized-same}
@@ -207,8 +207,8 @@ module _ (styling : Styling) where
     where
       after : (feed : Bool) → Lined
       after feed =
-          if feed then lined (ended (standing_after call it.at)) (text_number it) false
-          else lined (standing_after call it.at) (after_text it.number (text_number it) (stripped_call call)) (after_text it.is_open true (stripped_call call))
+          if feed then after_feed call it
+          else after_others call it
 
       others : (bytes : List ℕ) → AreTextual bytes → HasNoLineFeed bytes
           → Follow (after_text it.is_open true bytes) (after_text it.number (text_number it) bytes) (after_text it.at.shown it.at.selected bytes) rest

@@ -6,8 +6,8 @@ use Rattle.std.proofs.lemmas.Bool.{ne_eqb}
 use Rattle.anstyle_parse.specs.Stream.Call.{Call}
 use Rattle.ansi_strip.specs.Strip.{stripped_call}
 use Rattle.ansi_html.specs.declared.scheme.Styling.{Styling}
-use Rattle.ansi_html.specs.Html.{Element, no_element, element_end, after_text, text_html, is_executed, standing_after}
-use Rattle.ansi_html.specs.Lines.{Lined, lined, ended, text_number, line_opening, line_closing, line_end, lined_call, lined_after, lined_from, lined_at_end, lined_end, lined_html}
+use Rattle.ansi_html.specs.Html.{Element, no_element, element_end, after_text, text_html, is_executed}
+use Rattle.ansi_html.specs.Lines.{Lined, lined, ended, line_opening, line_closing, line_end, lined_call, lined_after, lined_from, lined_at_end, lined_end, lined_html, after_feed, after_others}
 use Rattle.ansi_html.specs.Blocks.{block_begin, block_end, Blocked, blocked, blocked_at_start, left_with_text, block_opening, ends_block, block_closing, block_ended, blocked_after, blocked_from, blocked_at_end, blocked_end, blocked_html, in_blocks, AreBlocksOf}
 use Rattle.ansi_html.proofs.LinerLemmas.{element_end-none}
 use Rattle.ansi_html.proofs.LineLemmas.{feed-text}
@@ -66,10 +66,10 @@ unfolding text_html
 lined_call-none styling it call other none =
     ap₂ (λ (bytes : List ℕ) (feed : Bool). line_opening it bytes ++ (text_html styling it.at feed bytes ++ line_closing it feed)) none other
 
-pub lined_after-feed : (call : Call) (it : Lined) → is_executed 0x0A call ≡ true → lined_after call it ≡ lined (ended (standing_after call it.at)) (text_number it) false
+pub lined_after-feed : (call : Call) (it : Lined) → is_executed 0x0A call ≡ true → lined_after call it ≡ after_feed call it
 lined_after-feed call it feeds =
-    ap (λ (feed : Bool). if feed then lined (ended (standing_after call it.at)) (text_number it) false
-    else lined (standing_after call it.at) (after_text it.number (text_number it) (stripped_call call)) (after_text it.is_open true (stripped_call call))) feeds
+    ap (λ (feed : Bool). if feed then after_feed call it
+    else after_others call it) feeds
 
 module _ (styling : Styling) where
   abbrev blocks_from : Blocked → List Call → List ℕ
@@ -128,7 +128,7 @@ module _ (styling : Styling) where
       ends feeds more =
           let is = lined_after-feed call it.inside feeds in
           let closed = ap (λ (l : Lined). element_end l.at.shown ++ block_end) is ∙ ap (λ l. l ++ block_end) element_end-none in
-          let same = ap (λ (l : Lined). lines_from (lined (ended l.at) l.number false) calls) is ∙ sym (ap (λ (l : Lined). lines_from l calls) is) in
+          let same = ap (λ (l : Lined). lines_from (lined (ended l.at) l.number false l.spare) calls) is ∙ sym (ap (λ (l : Lined). lines_from l calls) is) in
           subst (λ close. Rest (it.left == 0) (text ++ lines_from after calls) (block_opening it ++ (text ++ (close ++ blocks_from (block_ended after) calls)))) (sym closed)
           (subst (λ lines. Rest (it.left == 0) (text ++ lines) (block_opening it ++ (text ++ (block_end ++ blocks_from (block_ended after) calls)))) same
           (Rest-last (it.left == 0) text (lines_from (block_ended after).inside calls) (blocks_from (block_ended after) calls) more))

@@ -9,8 +9,9 @@ use Rattle.anstyle_parse.specs.Stream.Call.{Call}
 use Rattle.ansi_strip.specs.Strip.{stripped_call}
 use Rattle.ansi_strip.proofs.Showable.{IsShowable, AreShowable}
 use Rattle.ansi_html.specs.declared.scheme.Styling.{Styling}
+use Rattle.ansi_html.specs.Affordable.{earned_by_text}
 use Rattle.ansi_html.specs.Html.{Element, no_element, element_end, after_text, text_html, is_executed, standing_after}
-use Rattle.ansi_html.specs.Lines.{Lined, lined, ended, next_number, text_number, line_opening, line_closing, line_end, is_no_feed, HasNoLineFeed, text_in, AreLines, no_line}
+use Rattle.ansi_html.specs.Lines.{Lined, lined, next_number, text_number, line_opening, line_closing, line_end, is_no_feed, HasNoLineFeed, text_in, AreLines, no_line, after_feed}
 use Rattle.ansi_html.specs.Blocks.{lines_a_block, block_begin, block_end, inside_call, inside_after, inside_end, Blocked, blocked, blocked_at_start, left_with_text, block_opening, ends_block, block_closing, block_ended, blocked_after, blocked_from, blocked_at_end, blocked_end, blocked_html, line_feeds, AreWholeLines, AreLinesUpTo, fewer, StandsInBlock, number_after, number_after_block, AreBlocks, no_block, block, last_block}
 use Rattle.ansi_html.specs.Reader.{in_text, seen_from, read_of, byte_of}
 use Rattle.ansi_html.proofs.NewlineLemmas.{HasNoReturn, HasNoReturn-append, HasNoReturn-end, normalized-same}
@@ -107,8 +108,8 @@ number_at_end true left it = number_after (left - 1) (text_number it)
 number-same : (numbered : Bool) (call : Call) (it : Lined) → is_executed 0x0A call ≡ false → stripped_call call ≡ [] → (inside_after numbered call it).number ≡ it.number
 number-same false call it other none = refl
 number-same true call it other none =
-    ap₂ (λ (feed : Bool) (bytes : List ℕ). (if feed then lined (ended (standing_after call it.at)) (text_number it) false
-    else lined (standing_after call it.at) (after_text it.number (text_number it) bytes) (after_text it.is_open true bytes)).number) other none
+    ap₂ (λ (feed : Bool) (bytes : List ℕ). (if feed then after_feed call it
+    else lined (standing_after call it.at) (after_text it.number (text_number it) bytes) (after_text it.is_open true bytes) (earned_by_text bytes it.spare)).number) other none
 
 end-same : (numbered : Bool) (call : Call) (it : Lined) (left : ℕ) → is_executed 0x0A call ≡ false → stripped_call call ≡ []
     → number_at_end numbered left (inside_after numbered call it) ≡ number_at_end numbered left it
@@ -122,8 +123,8 @@ end-text : (numbered : Bool) (call : Call) (it : Lined) (left b : ℕ) (bytes : 
     → number_at_end numbered left (inside_after numbered call it) ≡ number_at_end numbered left it
 end-text false call it left b bytes other some = refl
 end-text true call it left b bytes other some =
-    ap₂ (λ (feed : Bool) (text : List ℕ). number_after (left - 1) (text_number (if feed then lined (ended (standing_after call it.at)) (text_number it) false
-    else lined (standing_after call it.at) (after_text it.number (text_number it) text) (after_text it.is_open true text)))) other some
+    ap₂ (λ (feed : Bool) (text : List ℕ). number_after (left - 1) (text_number (if feed then after_feed call it
+    else lined (standing_after call it.at) (after_text it.number (text_number it) text) (after_text it.is_open true text) (earned_by_text text it.spare)))) other some
 
 -- by a line feed one line less is left, and after the last one it is the number that is reached.
 end-feed : (numbered : Bool) (call : Call) (it : Lined) (left : ℕ) → is_executed 0x0A call ≡ true → left - 1 ≢ 0

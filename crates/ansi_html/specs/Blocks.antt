@@ -6,6 +6,7 @@ use Rattle.std.specs.List.{AllByRecursion, flat_map}
 use Rattle.anstyle_parse.specs.Stream.Call.{Call}
 use Rattle.ansi_strip.specs.Strip.{stripped_call}
 use Rattle.ansi_html.specs.declared.scheme.Styling.{Styling}
+use Rattle.ansi_html.specs.Affordable.{affordable}
 use Rattle.ansi_html.specs.Html.{element_end, after_text, is_executed, call_html, standing_after}
 use Rattle.ansi_html.specs.Grammar.{IsFragment}
 use Rattle.ansi_html.specs.Lines.{Lined, lined, lined_at_start, ended, lined_call, lined_after, lined_end, next_number, text_in, AreLines}
@@ -27,7 +28,7 @@ inside_call false styling it call = call_html styling it.at call
 inside_call true styling it call = lined_call styling it call
 
 abbrev pub inside_after : (numbered : Bool) → Call → Lined → Lined
-inside_after false call it = lined (standing_after call it.at) it.number it.is_open
+inside_after false call it = lined (standing_after call it.at) it.number it.is_open it.spare
 inside_after true call it = lined_after call it
 
 abbrev pub inside_end : (numbered : Bool) → Lined → List ℕ
@@ -72,7 +73,7 @@ blocked_call numbered styling it call =
     ++ block_closing (inside_after numbered call it.inside) (ends_block it call))
 
 abbrev pub block_ended : Lined → Blocked
-block_ended inside = blocked (lined (ended inside.at) inside.number false) 0
+block_ended inside = blocked (lined (ended inside.at) inside.number false inside.spare) 0
 
 abbrev pub blocked_after : (numbered : Bool) → Call → Blocked → Blocked
 blocked_after numbered call it =
@@ -102,6 +103,12 @@ blocked_ending numbered calls = blocked_end numbered (blocked_at_end numbered bl
 
 abbrev pub blocked_html : (numbered : Bool) → Styling → List Call → List ℕ
 blocked_html numbered styling calls = blocked_text numbered styling calls ++ blocked_ending numbered calls
+
+-- The calls whose HTML a reader sees in blocks: of text those of the stream, and of numbered lines those whose links can
+-- pay.
+abbrev pub calls_seen : (numbered : Bool) → List Call → List Call
+calls_seen false calls = calls
+calls_seen true calls = affordable calls
 
 -- HTML in parts, each in the element of a block.
 abbrev pub in_blocks : (parts : List (List ℕ)) → List ℕ

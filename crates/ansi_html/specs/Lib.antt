@@ -15,6 +15,7 @@ pub mod Styled
 pub mod ShownLinks
 pub mod Writer
 pub mod AddingProof
+pub mod Affordable
 pub mod Lines
 pub mod Liner
 pub mod LiningProof

@@ -17,7 +17,7 @@ abbrev pub styling_of : {W : Type 0} → LinesWriter W → Styling
 styling_of performer = writer.styling_of performer.html
 
 abbrev pub lined_of : {W : Type 0} → LinesWriter W → Lined
-lined_of performer = lined (writer.standing_of performer.html) performer.number performer.is_open
+lined_of performer = lined (writer.standing_of performer.html) performer.number performer.is_open performer.spare
 
 -- at the start, in this styling
 pub record IsNew {W : Type 0} (wanted : Styling) (performer : LinesWriter W) : Type 0 where

@@ -1,13 +1,13 @@
 -- The HTML of a list of calls in lines: each line of its text is one element, which has its number. What a style or a
 -- link goes on over stands in each of its lines anew.
-use Rattle.std.specs.Prelude.{◌≡◌, ◌≢◌, ◌≤◌, ℕ, suc, length, Bool, true, false, not, nat_lt, ◌==◌, List, [], ◌∷◌, ◌++◌, codes, map, decimal, IsTrue, if◌then◌else◌}
-use Rattle.std.specs.List.{AllByRecursion, list_all}
+use Rattle.std.specs.Prelude.{◌≡◌, ◌≢◌, ℕ, suc, Bool, true, false, not, nat_lt, ◌==◌, List, [], ◌∷◌, ◌++◌, codes, map, decimal, IsTrue, if◌then◌else◌}
+use Rattle.std.specs.List.{list_all}
 use Rattle.anstyle_parse.specs.Stream.Call.{Call}
 use Rattle.ansi_strip.specs.Strip.{stripped_call}
 use Rattle.ansi_html.specs.declared.scheme.Styling.{Styling}
 use Rattle.ansi_html.specs.declared.scheme.Styling.TheVariants.{Inline, Classes}
-use Rattle.ansi_html.specs.Links.{link_after}
-use Rattle.ansi_html.specs.Html.{Standing, at_start, no_element, link_begin, element_end, after_text, is_executed, call_html, standing_after}
+use Rattle.ansi_html.specs.Affordable.{earned, earned_by_text, feed_counts, is_paid, left_of}
+use Rattle.ansi_html.specs.Html.{element, Standing, at_start, no_element, element_end, after_text, is_executed, call_html, standing_after}
 use Rattle.ansi_html.specs.Reader.{byte_of, read}
 use Rattle.ansi_html.specs.Grammar.{IsFragment}
 
@@ -29,18 +29,19 @@ line_begin number =
 abbrev pub line_end : List ℕ
 line_end = codes "</span>"
 
--- Where HTML in lines stands: where the HTML of a stream does; the number of the last line that began, or 0; and
--- whether it is open.
+-- Where HTML in lines stands: where the HTML of a stream does; the number of the last line that began, or 0; whether it
+-- is open; and what is spare for links that go on.
 pub record Lined : Type 0 where
   pub at : Standing
   pub number : ℕ
   pub is_open : Bool
+  pub spare : ℕ
 
-abbrev pub lined : Standing → (number : ℕ) → (is_open : Bool) → Lined
-lined at number is_open = record { at = at; number = number; is_open = is_open }
+abbrev pub lined : Standing → (number : ℕ) → (is_open : Bool) → (spare : ℕ) → Lined
+lined at number is_open spare = record { at = at; number = number; is_open = is_open; spare = spare }
 
 abbrev pub lined_at_start : Lined
-lined_at_start = lined at_start 0 false
+lined_at_start = lined at_start 0 false 0
 
 -- A line begins before its first text, where none is open, and ends with its line feed: then nothing is open.
 abbrev pub text_number : Lined → ℕ
@@ -58,17 +59,33 @@ line_closing it is_line_feed = if is_line_feed then element_end it.at.selected +
 abbrev pub ended : Standing → Standing
 ended at = record { shown = no_element; selected = at.selected; returned = at.returned }
 
+-- The link that is selected goes on in the next line where that is paid, and else it is none.
+abbrev pub going_on : (paid : Bool) → Standing → Standing
+going_on paid at = record {
+  shown = at.shown;
+  selected = element at.selected.style (if paid then at.selected.link else []);
+  returned = at.returned;
+}
+
+abbrev pub line_ended : Standing → (number spare : ℕ) → Lined
+line_ended at number spare =
+    lined (going_on (is_paid spare at.selected.link) (ended at)) number false (left_of spare at.selected.link)
+
 -- what a call writes, and where it leads
 abbrev pub lined_call : Styling → Lined → Call → List ℕ
 lined_call styling it call =
     line_opening it (stripped_call call) ++ (call_html styling it.at call ++ line_closing it (is_executed 0x0A call))
 
+abbrev pub after_feed : Call → Lined → Lined
+after_feed call it = line_ended (standing_after call it.at) (text_number it) (earned feed_counts it.spare)
+
+abbrev pub after_others : Call → Lined → Lined
+after_others call it =
+    lined (standing_after call it.at) (after_text it.number (text_number it) (stripped_call call))
+    (after_text it.is_open true (stripped_call call)) (earned_by_text (stripped_call call) it.spare)
+
 abbrev pub lined_after : Call → Lined → Lined
-lined_after call it =
-    if is_executed 0x0A call
-    then lined (ended (standing_after call it.at)) (text_number it) false
-    else lined (standing_after call it.at) (after_text it.number (text_number it) (stripped_call call))
-    (after_text it.is_open true (stripped_call call))
+lined_after call it = if is_executed 0x0A call then after_feed call it else after_others call it
 
 -- the calls, one after another
 abbrev pub lined_from : Styling → Lined → List Call → List ℕ
@@ -113,14 +130,10 @@ pub data AreLines (styling : Styling) : (number : ℕ) → List ℕ → Type 0 w
       → text_in inside ≡ text
       → AreLines styling number (line_begin (next_number number) ++ (inside ++ line_end))
 
--- No link that calls select begins with a tag of more bytes.
-abbrev pub HasLinksUpTo : (limit : ℕ) → Styling → List Call → Type 0
-HasLinksUpTo limit styling calls =
-    AllByRecursion (λ call. length (link_begin styling (link_after call [])) ≤ limit) calls
-
--- The bytes of HTML in lines at most for each byte of a stream, beside the tag of a link. A line feed alone is a line:
--- that is its tags (103, where its number has twenty digits, and 7), a span (275 and 7, or 119 and 7 by classes), the end
--- of a link (4), and the line feed; 417 and 261 are what is proved of it.
+-- The bytes of HTML in lines at most for each byte of a stream. A line feed alone is a line: that is its tags (103, where
+-- its number has twenty digits, and 7), a span (275 and 7, or 119 and 7 by classes), the end of a link (4), the line
+-- feed, and the tag of a link that goes on (60), with the 100 bytes that it may have for a line feed; 577 and 421 are
+-- what is proved of it.
 abbrev pub lined_html_of_a_byte : Styling → ℕ
-lined_html_of_a_byte (Inline scheme) = 417
-lined_html_of_a_byte Classes = 261
+lined_html_of_a_byte (Inline scheme) = 577
+lined_html_of_a_byte Classes = 421

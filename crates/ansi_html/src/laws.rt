@@ -6,8 +6,8 @@ ghost use Rattle.anstyle_parse.specs.Stream.Calls.{AreCalls};
 ghost use Rattle.anstyle_parse.specs.Machine.AsRead.{as_read_whole};
 ghost use Rattle.ansi_strip.specs.Strip.{stripped};
 ghost use Rattle.ansi_html.specs.Html.{no_element, html, html_of_a_byte, html_of_an_end};
-ghost use Rattle.ansi_html.specs.Lines.{lined_html, HasLinksUpTo, lined_html_of_a_byte};
-ghost use Rattle.ansi_html.specs.Blocks.{blocked_html, AreBlocksOf, AreBlocks, block_of_a_byte, block_tags};
+ghost use Rattle.ansi_html.specs.Lines.{lined_html, lined_html_of_a_byte};
+ghost use Rattle.ansi_html.specs.Blocks.{blocked_html, calls_seen, AreBlocksOf, AreBlocks, block_of_a_byte, block_tags};
 ghost use Rattle.ansi_html.specs.Reader.{byte_of, seen, read, shown_from};
 
 use crate::scheme::{Scheme, Styling};
@@ -27,12 +27,13 @@ pub fn clones()
 
 /// Of HTML in blocks, with numbers of lines or without, a reader sees what it sees of the HTML that
 /// [`convert`](crate::convert) writes: text, line breaks, styles and links. So it reads the bytes of the stripped text,
-/// each with its style and its link.
+/// each with its style and its link. With numbers a link goes on over a line feed where it can pay for it, as in the
+/// HTML that [`convert_lines`](crate::convert_lines) writes.
 pub fn blocks()
     ensures same { (numbered : Bool) (styling : Styling) (calls : List Call)
-        → seen (blocked_html numbered styling calls) ≡ seen (html styling calls) }
+        → seen (blocked_html numbered styling calls) ≡ seen (html styling (calls_seen numbered calls)) }
     ensures read_back { (numbered : Bool) (styling : Styling) (calls : List Call)
-        → read (blocked_html numbered styling calls) ≡ shown_from styling no_element calls }
+        → read (blocked_html numbered styling calls) ≡ shown_from styling no_element (calls_seen numbered calls) }
     ensures text { (numbered : Bool) (styling : Styling) (calls : List Call)
         → map byte_of (read (blocked_html numbered styling calls)) ≡ stripped calls }
 
@@ -55,11 +56,9 @@ pub fn blocks()
     ensures bound { (styling : Styling) (bytes : List ℕ) (calls : List Call) → AreCalls bytes calls
         → length (blocked_html false styling calls) ≤ (html_of_a_byte styling + block_of_a_byte) * length bytes + 41 }
 
-    // and of numbered lines 447, or 291, and the longest tag of a link, which each line has anew; and 25 more.
-    ensures lines_bound { (styling : Styling) (limit : ℕ) (bytes : List ℕ) (calls : List Call)
-        → AreCalls bytes calls → HasLinksUpTo limit styling calls
-        → length (blocked_html true styling calls)
-        ≤ (lined_html_of_a_byte styling + limit + block_tags) * length bytes + 25 }
+    // and of numbered lines 607, or 451, and 25 more.
+    ensures lines_bound { (styling : Styling) (bytes : List ℕ) (calls : List Call) → AreCalls bytes calls
+        → length (blocked_html true styling calls) ≤ (lined_html_of_a_byte styling + block_tags) * length bytes + 25 }
 {}
 
 /// What `ansi2html` and the library write of a log is the HTML of what is read of it, to its end

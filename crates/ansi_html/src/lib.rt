@@ -25,7 +25,8 @@ ghost use Rattle.ansi_html.specs.Css.{selects_both, colors_css};
 ghost use Rattle.ansi_html.specs.Links.{IsLink, is_link_command, link_of, SaysLink};
 ghost use Rattle.ansi_html.specs.Html.{no_element, html_text, html_ending, html, html_of_a_byte, html_of_an_end, escaped_text, value_of};
 ghost use Rattle.ansi_html.specs.Reader.{no_attributes, byte_of, href_of, under, seen, read, normalized, drawn, ends_in_return, shown_from};
-ghost use Rattle.ansi_html.specs.Lines.{lined_text, lined_ending, lined_html, AreLines, HasLinksUpTo, lined_html_of_a_byte};
+ghost use Rattle.ansi_html.specs.Lines.{lined_text, lined_ending, lined_html, AreLines, lined_html_of_a_byte};
+ghost use Rattle.ansi_html.specs.Affordable.{affordable, HasShortLinks};
 ghost use Rattle.ansi_html.specs.Grammar.{AreReadable, IsFragment};
 ghost use Rattle.ansi_html.specs.declared.class.Class.{Class};
 ghost use Rattle.ansi_html.specs.Classes.{class_name, classes_of};
@@ -47,6 +48,7 @@ mod nearest;
 mod palette;
 mod performer;
 mod scheme;
+mod spare;
 mod standing;
 mod styled;
 mod stylesheet;
@@ -154,7 +156,9 @@ pub fn convert<R: Source, W: Sink>(
 /// element, `<span id="L…">…</span>`, and what a style or a link goes on over stands in each of its lines anew. First
 /// in it stands `<a href="#L…" data-line="…"></a>`, a link of no text to the line itself: a stylesheet may draw the
 /// number there, which is then no part of the text and is not copied with it. Lines are numbered from 1; after 2^64 - 1
-/// of them the number stays. What is read, written and answered otherwise is as for [`convert`].
+/// of them the number stays. A link pays for standing in the next line: each byte of text earns 25 bytes of HTML for
+/// it, and each line feed 100; where these are fewer than the link has, it ends with its line. What is read, written
+/// and answered otherwise is as for [`convert`].
 pub fn convert_lines<R: Source, W: Sink>(
     styling: Styling,
     head: &[u8],
@@ -170,11 +174,16 @@ pub fn convert_lines<R: Source, W: Sink>(
     // With Ok nothing of it is held back.
     ensures handed_on { OnOk result.1 (W.holds_nothing result.0) }
 
-    // A reader sees what it sees of the HTML that `convert` writes: text, line breaks, styles and links,
-    ensures same { (calls : List Call) → seen (lined_html styling calls) ≡ seen (html styling calls) }
+    // A reader sees what it sees of the HTML that `convert` writes: text, line breaks, styles and links. A link that
+    // can't pay to go on over a line feed ends there,
+    ensures same { (calls : List Call) → seen (lined_html styling calls) ≡ seen (html styling (affordable calls)) }
 
-    // so that it reads the bytes of the stripped text, each with its style and its link.
-    ensures read_back { (calls : List Call) → read (lined_html styling calls) ≡ shown_from styling no_element calls }
+    // and one of up to a hundred bytes in the HTML always can.
+    ensures short_links { (calls : List Call) → HasShortLinks calls → affordable calls ≡ calls }
+
+    // So a reader reads the bytes of the stripped text, each with its style and its link.
+    ensures read_back { (calls : List Call)
+        → read (lined_html styling calls) ≡ shown_from styling no_element (affordable calls) }
     ensures text { (calls : List Call) → map byte_of (read (lined_html styling calls)) ≡ stripped calls }
 
     // Each line is one element, with its number, in which nothing stands but what may stand in the HTML that
@@ -186,11 +195,9 @@ pub fn convert_lines<R: Source, W: Sink>(
     ensures utf8 { (bytes : List ℕ) (calls : List Call) → AreCalls bytes calls
         → IsUtf8 (lined_html styling calls) }
 
-    // It has at most 417 bytes for each byte that was read, or 261 by classes, and the longest tag of a link, which each
-    // line has anew; and 18 more.
-    ensures bound { (limit : ℕ) (bytes : List ℕ) (calls : List Call)
-        → AreCalls bytes calls → HasLinksUpTo limit styling calls
-        → length (lined_html styling calls) ≤ (lined_html_of_a_byte styling + limit) * length bytes + 18 }
+    // It has at most 577 bytes for each byte that was read, or 421 by classes, and 18 more.
+    ensures bound { (bytes : List ℕ) (calls : List Call) → AreCalls bytes calls
+        → length (lined_html styling calls) ≤ lined_html_of_a_byte styling * length bytes + 18 }
 {
     let mut output = Output::new(writer);
     output.put(head);

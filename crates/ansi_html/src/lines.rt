@@ -2,11 +2,13 @@
 ghost use Rattle.std.specs.Prelude.{◌≡◌, true};
 ghost use Rattle.anstyle_parse.specs.Stream.Call.{execute};
 ghost use Rattle.anstyle_parse.specs.Io.Output.{Adds};
-ghost use Rattle.ansi_html.specs.Lines.{lined, text_number, before_text};
+ghost use Rattle.ansi_html.specs.Affordable.{earned, is_paid, left_of};
+ghost use Rattle.ansi_html.specs.Lines.{lined, going_on, text_number, before_text};
 
 use crate::line::next_number;
 use crate::performer::HtmlWriter;
 use crate::scheme::Styling;
+use crate::spare::{FEED_COUNTS, earned, left_of};
 use ansi_strip::is_layout;
 use anstyle_parse::io::{Output, Sink, WritingPerformer};
 use anstyle_parse::{Params, Perform, PerformText};
@@ -15,8 +17,8 @@ use anstyle_parse::{Params, Perform, PerformText};
 ///
 /// Each line of the text, with the line feed at its end, stands in `<span id="L…">…</span>`, in which a link of no text
 /// to the line has its number, counted from 1: `<a href="#L…" data-line="…"></a>`. What a style or a link goes on over
-/// stands in each of its lines anew. A line begins before its first text, so after a last line feed there is none.
-/// After 2^64 - 1 lines the number stays.
+/// stands in each of its lines anew; a link ends at a line feed where the text so far is too little to pay for that. A
+/// line begins before its first text, so after a last line feed there is none. After 2^64 - 1 lines the number stays.
 #[derive(Drop)]
 pub struct LinesWriter<W> {
     pub(crate) html: HtmlWriter<W>,
@@ -24,6 +26,8 @@ pub struct LinesWriter<W> {
     number: u64,
     /// That line is open.
     pub(crate) is_open: bool,
+    /// The bytes of HTML that links may still take to go on over line feeds.
+    spare: usize,
 }
 
 impl<W: Sink> LinesWriter<W> {
@@ -39,17 +43,20 @@ impl<W: Sink> LinesWriter<W> {
             html: HtmlWriter::new(styling, output),
             number: 0,
             is_open: false,
+            spare: 0,
         }
     }
 
-    /// Text of a line may follow: where none is open, the next one begins.
+    /// Text of a line may follow, which counts as so many bytes: where none is open, the next one begins.
     #[inline]
-    fn begin_text(&mut self)
+    fn begin_text(&mut self, count: usize)
         ensures styling { styling_of self.new ≡ styling_of self.old }
         ensures standing { lined_of self.new
-            ≡ lined (lined_of self.old).at (text_number (lined_of self.old)) true }
+            ≡ lined (lined_of self.old).at (text_number (lined_of self.old)) true
+            (earned count (lined_of self.old).spare) }
         ensures added { Adds W.Sink (before_text (lined_of self.old)) (output_of self.old) (output_of self.new) }
     {
+        self.spare = earned(count, self.spare);
         if !self.is_open {
             self.number = next_number(self.number);
             self.is_open = true;
@@ -61,10 +68,26 @@ impl<W: Sink> LinesWriter<W> {
     fn put_line_feed(&mut self)
         ensures { TakesCall W.Sink self.old (execute 0x0A) self.new }
     {
-        self.begin_text();
+        self.begin_text(FEED_COUNTS);
         self.html.execute(b'\n');
         self.html.end_line();
         self.is_open = false;
+        self.pay_for_link();
+    }
+
+    /// The link that is selected goes on where that is paid, and else it ends.
+    fn pay_for_link(&mut self)
+        ensures output { output_of self.new ≡ output_of self.old }
+        ensures styling { styling_of self.new ≡ styling_of self.old }
+        ensures standing { lined_of self.new
+            ≡ lined (going_on (is_paid (lined_of self.old).spare (lined_of self.old).at.selected.link) (lined_of self.old).at)
+            (lined_of self.old).number (lined_of self.old).is_open
+            (left_of (lined_of self.old).spare (lined_of self.old).at.selected.link) }
+    {
+        match left_of(self.spare, self.html.selected_link()) {
+            Some(left) => self.spare = left,
+            None => self.html.end_link(),
+        }
     }
 }
 
@@ -74,7 +97,7 @@ impl<W: Sink> Perform for LinesWriter<W> {
     ghost means = { TakesCall W.Sink };
 
     fn print(&mut self, c: char) {
-        self.begin_text();
+        self.begin_text(c.len_utf8());
         self.html.print(c);
     }
 
@@ -82,7 +105,7 @@ impl<W: Sink> Perform for LinesWriter<W> {
         if byte == b'\n' {
             self.put_line_feed();
         } else if is_layout(byte) {
-            self.begin_text();
+            self.begin_text(1);
             self.html.execute(byte);
         }
     }
@@ -114,7 +137,7 @@ impl<W: Sink> PerformText for LinesWriter<W> {
 
     fn print_text(&mut self, text: &str) {
         if !text.is_empty() {
-            self.begin_text();
+            self.begin_text(text.len());
             self.html.print_text(text);
         }
     }

@@ -117,6 +117,19 @@ impl Links {
         }
     }
 
+    /// Selects no link.
+    pub(crate) fn select_none(&mut self)
+        ensures shown { shown_link self.new ≡ shown_link self.old }
+        ensures selected { selected_link self.new ≡ [] }
+    {
+        self.has_next = true;
+        if self.shows_second {
+            self.first.clear();
+        } else {
+            self.second.clear();
+        }
+    }
+
     /// Selects the link of a command that is OSC 8.
     pub(crate) fn select(&mut self, parts: &[&[u8]])
         ensures shown { shown_link self.new ≡ shown_link self.old }

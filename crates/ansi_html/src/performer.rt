@@ -5,7 +5,7 @@ ghost use Rattle.ansi_style.specs.Style.{plain};
 ghost use Rattle.ansi_html.specs.Classes.{class_names, classes_of};
 ghost use Rattle.ansi_html.specs.Grammar.{is_special, AreClear, BeginWithClear};
 ghost use Rattle.ansi_html.specs.ShownLinks.{has_next, shown_link, selected_link};
-ghost use Rattle.ansi_html.specs.Lines.{line_begin, line_end, ended};
+ghost use Rattle.ansi_html.specs.Lines.{line_begin, line_end, ended, going_on};
 ghost use Rattle.ansi_html.specs.Blocks.{block_begin};
 ghost use Rattle.ansi_html.specs.Html.{line_break, beginning, value_of, attribute_text, span_begin, span_end, link_begin, link_end, element, element_begin, element_end, change, escaped, escaped_text};
 
@@ -177,6 +177,23 @@ impl<W: Sink> HtmlWriter<W> {
         self.has_selected = true;
         self.shown = Style::default();
         self.links.end_shown();
+    }
+
+    /// The link that is selected; empty where none is.
+    pub(crate) fn selected_link(&self) -> &[u8]
+        ensures { result.now ≡ (standing_of self.now).selected.link }
+    {
+        self.links.selected()
+    }
+
+    /// Ends the link that is selected, as the command that selects none does.
+    pub(crate) fn end_link(&mut self)
+        ensures output { output_of self.new ≡ output_of self.old }
+        ensures styling { styling_of self.new ≡ styling_of self.old }
+        ensures standing { standing_of self.new ≡ going_on false (standing_of self.old) }
+    {
+        self.has_selected = true;
+        self.links.select_none();
     }
 
     /// Writes text of no byte with a meaning in HTML.

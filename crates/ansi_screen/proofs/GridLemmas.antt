@@ -1,6 +1,6 @@
 -- A grid's rows, in an order, as one list of cells: what is done to a row, or to rows, is done to a part of that.
 use Rattle.std.proofs.Common.{◌≡◌, ℕ, zero, suc, ◌+◌, ◌-◌, ◌*◌, ◌<◌, ◌≤◌, Bool, true, false, List, [], ◌∷◌, ◌++◌, length, get_or, take, drop, set, refl, ap, ap₂, sym, ◌∙◌, inl, inr, arith}
-use Rattle.std.specs.Prelude.{min, replicate, nat_lt, nat_eq, if◌then◌else◌}
+use Rattle.std.specs.Prelude.{min, replicate, nat_lt, nat_eq, if◌then◌else◌, None}
 use Rattle.std.specs.List.{AllByRecursion}
 use Rattle.std.proofs.lemmas.Bool.{lt-ltb, and_right, cases_lt, false≢true}
 use Rattle.std.proofs.lemmas.List.{take_at, drop_at, set_split, append_assoc, length-append, length-take-le, length-drop, replicate-append-replicate, drop-append-le, take-append-le, take-append-drop, take_all, drop_all, length-set, length-map, get_or_append_left, get_or-append-add, get_or-map, get_or-set_same, get_or-set_other, get_or_default, set-append_left}
@@ -14,10 +14,10 @@ use Rattle.ansi_screen.specs.declared.cell.Cell.{Cell}
 use Rattle.ansi_screen.specs.Cells.{blank, emptied, is_right, cell_at, cut, with_mark, marked_before, going_on, within, change, moved_back, moved_on, deleted, inserted}
 use Rattle.ansi_screen.specs.Grid.{Grid, with_list, flat, in_order, AreRows, times, IsOrder}
 use Rattle.ansi_screen.specs.Print.{glyph}
-use Rattle.ansi_screen.specs.Reachable.{IsWhole}
+use Rattle.ansi_screen.specs.Reachable.{ArePaired, IsWhole}
 use Rattle.ansi_screen.specs.Runs.{with_glyphs}
 use Rattle.ansi_screen.proofs.CellLemmas.{cut-none, cut-first, cut-past}
-use Rattle.ansi_screen.proofs.PairLemmas.{length-cut, whole-cut, paired-first}
+use Rattle.ansi_screen.proofs.PairLemmas.{length-cut, whole-cut, paired-append, paired-first}
 use Rattle.ansi_screen.proofs.WholeLemmas.{whole-glyph, length-put}
 
 -- numbers that stand in an order once
@@ -169,6 +169,11 @@ rows-begin w zero (x ∷ rows) some are =
 rows-begin w (suc row) (x ∷ rows) some are =
     let long : suc row * w ≡ length x + row * w = omega (arith, suc-mul row w, are.0.0) in
     rw long (ap (λ (c : Cell). is_right c.part) (get_or-append-add x (flat rows) (row * w) (blank plain)) ∙ rows-begin w row rows some are.1)
+
+-- the halves in them stand in pairs
+pub flat-paired : (w : ℕ) (rows : List (List Cell)) → AreRows w rows → ArePaired None (flat rows)
+flat-paired w [] are = refl
+flat-paired w (x ∷ rows) are = paired-append None x (flat rows) are.0.1.paired (flat-paired w rows are.1)
 
 -- the list around a row
 front-long : (w r : ℕ) (rows : List (List Cell)) → AreRows w rows → r ≤ length rows → length (flat (take r rows)) ≡ r * w

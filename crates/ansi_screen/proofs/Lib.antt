@@ -26,6 +26,7 @@ pub mod LawLemmas
 pub mod ScrollLemmas
 pub mod PlainLemmas
 pub mod RowLemmas
+pub mod InsertLemmas
 pub mod EditLemmas
 pub mod DamageLemmas
 pub mod SendLemmas

@@ -235,7 +235,7 @@ same-wider start end first last xs ys same from to =
     }
 
 -- a display with other cells and the cursor in another column
-abbrev in_row : List Cell → ℕ → Display → Display
+abbrev pub in_row : List Cell → ℕ → Display → Display
 in_row cells column d = record d { cells = cells; cursor = record d.cursor { column = column } }
 
 -- The line drawing set has characters of one column, as those that it stands for.
@@ -318,11 +318,11 @@ drawn-if c false = refl
 abbrev with_mark_by : Bool → ℕ → Display → List Cell → List Cell
 with_mark_by first c d cells = if first then cells else marked_before c (here d) cells
 
-abbrev room_by : Bool → ℕ → Display → List Cell → List Cell
+abbrev pub room_by : Bool → ℕ → Display → List Cell → List Cell
 room_by inserts n d cells =
     if inserts then inserted n (here d) (row_end d) (space d) (going_on false (row_end d) cells) else cells
 
-abbrev put_by : Bool → ℕ → ℕ → Display → List Cell → List Cell
+abbrev pub put_by : Bool → ℕ → ℕ → Display → List Cell → List Cell
 put_by inserts n c d cells = change (here d) (here d + n) (λ run. glyph n c d.cursor.style d.link) (room_by inserts n d cells)
 
 marked-by : (c : ℕ) (d : Display) (cells : List Cell) (t : Bool) → (d.cursor.column == 0) ≡ t
@@ -331,7 +331,7 @@ unfolding marked
 marked-by c d cells true is = rw is refl
 marked-by c d cells false is = rw is refl
 
-put-by : (n c : ℕ) (d : Display) (cells : List Cell) (t : Bool) → d.inserts ≡ t → d.cursor.column + n ≤ d.width
+pub put-by : (n c : ℕ) (d : Display) (cells : List Cell) (t : Bool) → d.inserts ≡ t → d.cursor.column + n ≤ d.width
     → put n c (wrapped n (with_cells cells d)) ≡ in_row (put_by t n c d cells) (d.cursor.column + n) d
 unfolding put wrapped with_room with_glyph inserted_characters
 put-by n c d cells true is fits =

@@ -51,13 +51,13 @@ mended-other (suc place) [] is = refl
 mended-other zero (x ∷ cells) is = rw is refl
 mended-other (suc place) (x ∷ cells) is = mended-other place cells is
 
-right-inside : (place : ℕ) (cells : List Cell) → right_at place cells ≡ true → place < length cells
+pub right-inside : (place : ℕ) (cells : List Cell) → right_at place cells ≡ true → place < length cells
 right-inside place [] is = cc is
 right-inside zero (x ∷ cells) is = omega arith
 right-inside (suc place) (x ∷ cells) is = let inside = right-inside place cells is in omega arith
 
 -- a cut on a border: as it stands, where a right half stands there, and where none does
-cut-on : (place : ℕ) (cells : List Cell) → right_at (suc place) cells ≡ true
+pub cut-on : (place : ℕ) (cells : List Cell) → right_at (suc place) cells ≡ true
     → cut (suc place) cells ≡ set (set cells place (emptied (cell_at place cells))) (suc place) (emptied (cell_at (suc place) cells))
 unfolding cut
 cut-on place cells is =
@@ -65,7 +65,7 @@ cut-on place cells is =
     let before : suc place - 1 ≡ place = omega arith in
     rw (some, is, before) refl
 
-cut-off : (place : ℕ) (cells : List Cell) → right_at place cells ≡ false → cut place cells ≡ cells
+pub cut-off : (place : ℕ) (cells : List Cell) → right_at place cells ≡ false → cut place cells ≡ cells
 cut-off place cells is = sym (cut-none cells place (and_right (nat_lt 0 place) (right_at place cells) is))
 
 -- what stands behind it
@@ -95,7 +95,7 @@ drop-past-if true n (suc place) cells past is =
     ∙ drop-set-lt n cells place (emptied (cell_at place cells)) (omega arith))
 drop-past-if false n place cells past is = ap (drop n) (cut-off place cells is)
 
-drop-past : (n place : ℕ) (cells : List Cell) → place < n → drop n (cut place cells) ≡ drop n cells
+pub drop-past : (n place : ℕ) (cells : List Cell) → place < n → drop n (cut place cells) ≡ drop n cells
 drop-past n place cells past = drop-past-if (right_at place cells) n place cells past refl
 
 -- what stands before it
@@ -110,7 +110,7 @@ pub take-cut : (n place : ℕ) (cells : List Cell) → n ≤ place → take n (c
 take-cut n place cells before = take-cut-if (right_at (suc place) cells) n place cells before refl
 
 -- Where no right half stands, none does once the next border is cut.
-other-set : (place : ℕ) (cells : List Cell) (e r : Cell) → is_right e.part ≡ false → right_at place (set (set cells place e) (suc place) r) ≡ false
+pub other-set : (place : ℕ) (cells : List Cell) (e r : Cell) → is_right e.part ≡ false → right_at place (set (set cells place e) (suc place) r) ≡ false
 other-set place [] e r is = refl
 other-set zero (x ∷ cells) e r is = is
 other-set (suc place) (x ∷ cells) e r is = other-set place cells e r is
@@ -262,7 +262,7 @@ put-run text place style link cells first second third new some inside e f g h =
     ∙ put-all text place style link cells first second third new some inside e f g h
 
 -- Of two halves that stand side by side, the first is no right one where the second is.
-right-behind : (place : ℕ) (before : Option Style) (cells : List Cell) → ArePaired before cells → right_at (suc place) cells ≡ true → right_at place cells ≡ false
+pub right-behind : (place : ℕ) (before : Option Style) (cells : List Cell) → ArePaired before cells → right_at (suc place) cells ≡ true → right_at place cells ≡ false
 right-behind place before [] are half = cc half
 right-behind place before (a ∷ []) are half = cc half
 right-behind zero before (a ∷ b ∷ cells) are half =

@@ -1,5 +1,5 @@
 //! The cells of a screen: rows, of which each can stand anywhere in memory.
-ghost use Rattle.std.specs.Prelude.{◌≡◌, ℕ, true, false, ◌+◌, ◌-◌, ◌*◌, ◌<◌, ◌≤◌, ◌++◌, length, min, take, drop, replicate, IfOk};
+ghost use Rattle.std.specs.Prelude.{◌≡◌, ℕ, true, false, None, ◌+◌, ◌-◌, ◌*◌, ◌<◌, ◌≤◌, ◌++◌, length, min, take, drop, replicate, IfOk};
 ghost use Rattle.ansi_style.specs.Style.{plain};
 ghost use Rattle.ansi_screen.specs.Cells.{blank, cell_at, rows_of, marked_before, going_on, within, change, erased, moved_back, moved_on, deleted, inserted};
 ghost use Rattle.ansi_screen.specs.Damage.{HasHistory, KeepsColumns, IsOutside, span_at};
@@ -7,7 +7,7 @@ ghost use Rattle.ansi_screen.specs.Following.{copied};
 ghost use Rattle.ansi_screen.specs.Grid.{blank_grid, with_list, IsBlankFrom, IsOrder};
 ghost use Rattle.ansi_screen.specs.History.{kept_after, kept_after_all, with_left};
 ghost use Rattle.ansi_screen.specs.Print.{glyph};
-ghost use Rattle.ansi_screen.specs.Reachable.{RowsBegin};
+ghost use Rattle.ansi_screen.specs.Reachable.{RowsBegin, ArePaired};
 ghost use Rattle.ansi_screen.specs.Runs.{with_glyphs};
 
 use crate::cell::Cell;
@@ -195,6 +195,7 @@ impl Grid {
         ensures some { 0 < self.now.width }
         ensures filled { length self.now.cells ≡ self.now.height * self.now.width }
         ensures begin { RowsBegin self.now.width self.now.cells }
+        ensures paired { ArePaired None self.now.cells }
     {
         self.width
     }

@@ -1,8 +1,8 @@
 -- Sources that were read, one after another.
-use Rattle.std.proofs.Common.{◌≡◌, ℕ, Bool, true, false, ◌&&◌, not, List, [], ◌∷◌, ◌++◌, Option, None, Some, Result, Ok, Err, is_err, ◌⊎◌, inl, inr, length, set, get_or, ◌<◌, refl, sym, ◌∙◌, subst, arith}
+use Rattle.std.proofs.Common.{◌≡◌, ℕ, Bool, true, false, ◌&&◌, not, List, [], ◌∷◌, ◌++◌, Option, None, Some, Result, Ok, Err, is_err, ◌⊎◌, inl, inr, length, set, get_or, ◌<◌, refl, sym, ap, ◌∙◌, subst, arith, append_assoc}
 use Rattle.std.specs.List.{flat_map}
 use Rattle.std.specs.Io.KnownBytes.{Appends}
-use Rattle.std.proofs.KnownBytes.{Appends-kept}
+use Rattle.std.proofs.KnownBytes.{Appends-kept, Appends-trans}
 use Rattle.anstyle_parse.specs.declared.io.Fault.{Fault}
 use Rattle.anstyle_parse.specs.declared.io.Fault.TheVariants.{Read, Write, Flush}
 use Rattle.anstyle_parse.specs.declared.io.devices.Sink.{Ghosts as SinkOf}
@@ -12,7 +12,7 @@ use Rattle.anstyle_parse.specs.Io.Output.{writer_in, fault_in, Adds, Finishes, W
 use Rattle.anstyle_parse.specs.declared.io.devices.Source.{Ghosts as SourceOf}
 use Rattle.each_source.specs.declared.Stopped.{Stopped}
 use Rattle.each_source.specs.declared.Stopped.TheVariants.{NoMemory, Stuck, AtFault}
-use Rattle.each_source.specs.Each.{Given, IsRead, IsFrontRead, IsBegun, AreRead, AreWhole, LacksMemory, AddsEach, Reaches, WritesEach, stopped_by}
+use Rattle.each_source.specs.Each.{Given, IsRead, IsFrontRead, IsBegun, AreRead, AreWhole, LacksMemory, WasHeld, AddsEach, Reaches, WritesEach, stopped_by}
 
 module _ {R : Type 0} (source : SourceOf R) where
   -- what is known of sources that were read whole is known where less is
@@ -119,6 +119,7 @@ module _ {W T : Type 0} (sink : SinkOf W) where
     are_read = AreRead-when source _ readers readers_after given (λ _. before clear) are;
     written = (written, all (before clear));
     causes = causes;
+    held = tt;
   }
   WritesEach-from source text head tail readers readers_after writer new middle final (Err Flush) given before are all (inl e) written causes =
       absurd (let clash : Err Flush ≡ Err Write = e in cc)
@@ -127,47 +128,71 @@ module _ {W T : Type 0} (sink : SinkOf W) where
     are_read = AreRead-when source _ readers readers_after given (λ _. before clear) are;
     written = (written, all (before clear));
     causes = causes;
+    held = tt;
   }
   WritesEach-from source text head tail readers readers_after writer new middle final (Err Write) given before are all which written causes = record {
     given = given;
     are_read = AreRead-when source _ readers readers_after given (λ never. absurd never) are;
     written = written;
     causes = causes;
+    held = tt;
   }
   WritesEach-from source text head tail readers readers_after writer new middle final (Err Read) given before are all which written causes = absurd written
 
 module _ {W : Type 0} (sink : SinkOf W) where
+  -- with no fault after it a text is written whole
+  pub whole_unless_fault : (text : List ℕ) (start final : Output W) → fault_in final ≡ None → Adds sink text start final
+      → Appends (sink.contents (writer_in start)) (sink.contents (writer_in final)) text
+  whole_unless_fault text start final clear added = by_fault (fault_in start) refl added
+    where
+      by_fault : (fault : Option Fault) → fault_in start ≡ fault → AddsAt fault sink text start final
+          → Appends (sink.contents (writer_in start)) (sink.contents (writer_in final)) text
+      by_fault None is (inl all) = all.written
+      by_fault None is (inr part) = absurd (let clash : Some Write ≡ None = sym part.fault ∙ clear in cc)
+      by_fault (Some fault) is same = absurd (let clash : Some fault ≡ None = sym is ∙ (ap fault_in (sym same) ∙ clear) in cc)
+
+  -- a writer that held bytes back within a text did so within what another one is before it
+  pub WasHeld-after : (before text : List ℕ) (writer next : W) → Appends (sink.contents writer) (sink.contents next) before
+      → WasHeld sink text next → WasHeld sink (before ++ text) writer
+  WasHeld-after before text writer next begun held = record {
+    given = before ++ held.given;
+    left = held.left;
+    joined = ap (λ t. before ++ t) held.joined ∙ sym (append_assoc before held.given held.left);
+    holder = held.holder;
+    written = Appends-trans _ _ _ _ _ begun held.written;
+    holds_back = held.holds_back;
+  }
+
   -- the same where it came to an end before all sources: without memory, or stuck
   pub WritesEach-stopped : {R S : Type 0} (source : SourceOf R) (text : Given → List ℕ) (head tail : List ℕ) (readers readers_after : List R) (writer new : W)
       (first final : Output W) (answer : Result S Stopped) → is_err answer ≡ true
       → (added : AddsEach source sink text readers readers_after first final answer)
+      → (fault_in final ≡ None → Appends (sink.contents writer) (sink.contents (writer_in first)) head)
       → (fault_in final ≡ None → Appends (sink.contents writer) (sink.contents new) (head ++ flat_map text added.given))
       → WritesEach source sink text (head, tail) readers readers_after writer (new, answer)
-  WritesEach-stopped source text head tail readers readers_after writer new first final (Ok done) is added written =
+  WritesEach-stopped source text head tail readers readers_after writer new first final (Ok done) is added begun written =
       absurd (let clash : false ≡ true = is in cc)
-  WritesEach-stopped source text head tail readers readers_after writer new first final (Err NoMemory) is added written = record {
+  WritesEach-stopped source text head tail readers readers_after writer new first final (Err NoMemory) is added begun written = record {
     given = added.given;
     are_read = AreRead-narrow source _ readers readers_after added.given (λ _. (tt, added.reaches.0)) added.are_read;
     written = (written added.reaches.0, added.reaches.1);
     causes = tt;
+    held = tt;
   }
-  WritesEach-stopped source text head tail readers readers_after writer new first final (Err Stuck) is added written = record {
+  WritesEach-stopped source text head tail readers readers_after writer new first final (Err Stuck) is added begun written = record {
     given = added.given;
     are_read = AreRead-narrow source _ readers readers_after added.given (λ never. absurd never) added.are_read;
     written = (written added.reaches.0, added.reaches.1);
     causes = tt;
+    held = WasHeld-after head (flat_map text added.given) writer (writer_in first) (begun added.reaches.0) added.held;
   }
-  WritesEach-stopped source text head tail readers readers_after writer new first final (Err (AtFault fault)) is added written = absurd added.reaches
+  WritesEach-stopped source text head tail readers readers_after writer new first final (Err (AtFault fault)) is added begun written = absurd added.reaches
 
 -- what is stuck with no fault is stuck, and so has no fault
 pub not_stuck : (stuck clear : Bool) → (stuck && clear) ≡ false → clear ≡ true → stuck ≡ false
 not_stuck false clear both is = refl
 not_stuck true true both is = absurd (let clash : true ≡ false = both in cc)
 not_stuck true false both is = absurd (let clash : false ≡ true = is in cc)
-
-pub is_clear : (stuck clear : Bool) → (stuck && clear) ≡ true → clear ≡ true
-is_clear true clear both = both
-is_clear false clear both = absurd (let clash : false ≡ true = both in cc)
 
 pub not_is : (clear : Bool) → not clear ≡ false → clear ≡ true
 not_is true is = refl

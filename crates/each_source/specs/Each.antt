@@ -10,7 +10,7 @@ use Rattle.anstyle_parse.specs.declared.io.output.Output.{Output}
 use Rattle.anstyle_parse.specs.Stream.Call.{Call}
 use Rattle.anstyle_parse.specs.Stream.Calls.{AreCalls}
 use Rattle.anstyle_parse.specs.Machine.AsRead.{as_read, as_read_whole}
-use Rattle.anstyle_parse.specs.Io.Output.{fault_in, Adds, AppendsPrefix}
+use Rattle.anstyle_parse.specs.Io.Output.{writer_in, fault_in, HoldsBack, Adds, AppendsPrefix}
 use Rattle.anstyle_parse.specs.Io.Run.{most_reads}
 use Rattle.each_source.specs.declared.Stopped.{Stopped}
 use Rattle.each_source.specs.declared.Stopped.TheVariants.{NoMemory, Stuck, AtFault}
@@ -70,14 +70,24 @@ AreRead source whole begun (reader ∷ readers) (after ∷ readers_after) (given
     IsRead source whole reader after given × AreRead source whole begun readers readers_after others
 AreRead source whole begun _ _ (given ∷ others) = ⊥
 
+-- When so much of a text was written, the writer held bytes back.
+pub record WasHeld {W : Type 0} (sink : SinkOf W) (text : List ℕ) (writer : W) : Type 0 where
+  pub given : List ℕ
+  pub left : List ℕ
+  pub joined : text ≡ given ++ left
+  pub holder : W
+  pub written : Appends (sink.contents writer) (sink.contents holder) given
+  pub holds_back : HoldsBack sink holder
+
 -- One source was read, and the text of its calls went to the output. It was read whole, unless the output failed or
--- its writer is stuck.
+-- its writer is stuck, which held bytes back then.
 pub record WritesOne {R W : Type 0} (source : SourceOf R) (sink : SinkOf W) (text : Given → List ℕ)
     (reader reader_after : R) (output output_after : Output W) (is_stuck : Bool) : Type 0 where
   pub given : Given
   pub is_read : IsRead source ((is_stuck ≡ false) × (fault_in output_after ≡ None)) reader reader_after given
   pub added : Adds sink (text given) output output_after
   pub clear : is_stuck ≡ true → fault_in output_after ≡ None
+  pub held : is_stuck ≡ true → WasHeld sink (text given) (writer_in output)
 
 -- How many sources of those that are given were read: all, unless the output failed; where there was no memory for the
 -- next performer fewer; and where the writer is stuck some.
@@ -98,6 +108,11 @@ abbrev pub LacksMemory : {T : Type 0} → Result T Stopped → Type 0
 LacksMemory (Err NoMemory) = ⊤
 LacksMemory _ = ⊥
 
+-- what holds where the writer is stuck
+abbrev pub IfStuck : {T : Type 0} → Result T Stopped → Type 0 → Type 0
+IfStuck (Err Stuck) Holds = Holds
+IfStuck _ Holds = ⊤
+
 -- Sources were read one after another, and their texts, joined, went to the output.
 pub record AddsEach {R W T : Type 0} (source : SourceOf R) (sink : SinkOf W) (text : Given → List ℕ)
     (readers readers_after : List R) (output output_after : Output W) (answer : Result T Stopped) : Type 0 where
@@ -106,6 +121,7 @@ pub record AddsEach {R W T : Type 0} (source : SourceOf R) (sink : SinkOf W) (te
       readers readers_after given
   pub added : Adds sink (flat_map text given) output output_after
   pub reaches : Reaches answer (fault_in output_after) (length given) (length readers)
+  pub held : IfStuck answer (WasHeld sink (flat_map text given) (writer_in output))
 
 -- what stopped it, where the output failed
 abbrev pub stopped_by : {T : Type 0} → Result T Fault → Result T Stopped
@@ -137,7 +153,7 @@ StopsBy failed failed_after (Err NoMemory) = ⊤
 StopsBy failed failed_after (Err Stuck) = ⊤
 
 -- A run over sources: what each gave and the calls of what is read of it, what was written with a head and a tail
--- around it, and why no more was.
+-- around it, and why no more was; where the writer is stuck, it held bytes back.
 pub record WritesEach {R W T : Type 0} (source : SourceOf R) (sink : SinkOf W) (text : Given → List ℕ)
     (around : List ℕ × List ℕ) (readers readers_after : List R) (writer : W) (result : W × Result T Stopped)
     : Type 0 where
@@ -147,3 +163,4 @@ pub record WritesEach {R W T : Type 0} (source : SourceOf R) (sink : SinkOf W) (
       WritesJoin result.1 (sink.contents writer) (sink.contents result.0) around.0 (flat_map text given) around.1
       (length given) (length readers)
   pub causes : StopsBy (sink.has_failed writer) (sink.has_failed result.0) result.1
+  pub held : IfStuck result.1 (WasHeld sink (around.0 ++ flat_map text given) writer)

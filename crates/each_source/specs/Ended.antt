@@ -3,10 +3,11 @@ use Rattle.std.specs.Prelude.{◌≡◌, ◌≢◌, ℕ, Bool, true, false, List
 use Rattle.std.specs.List.{AllByRecursion}
 use Rattle.std.specs.Io.KnownBytes.{Consumes, IsAtEnd}
 use Rattle.anstyle_parse.specs.declared.accumulator.Utf8Parser.{Utf8Parser}
+use Rattle.anstyle_parse.specs.declared.io.devices.Sink.{Ghosts as SinkOf}
 use Rattle.anstyle_parse.specs.declared.io.devices.Source.{Ghosts as SourceOf}
 use Rattle.anstyle_parse.specs.declared.io.output.Output.{Output}
 use Rattle.anstyle_parse.specs.declared.parser.Parser.{Parser}
-use Rattle.anstyle_parse.specs.Io.Output.{fault_in}
+use Rattle.anstyle_parse.specs.Io.Output.{writer_in, fault_in, HoldsBack}
 use Rattle.anstyle_parse.specs.Machine.AsRead.{as_read}
 use Rattle.anstyle_parse.specs.Stream.Call.{Call}
 use Rattle.anstyle_parse.specs.Stream.Calls.{AreCalls}
@@ -37,8 +38,8 @@ is_over Middle = false
 is_over _ = true
 
 -- A piece went to a parser, and its calls to a performer. Where the answer is why no more is to be read, a fault is
--- kept or the writer is stuck, and else no fault is.
-pub record GivesOn {W P : Type 0} (receives : P → List Call → P → Type 0) (output_of : P → Output W)
+-- kept, or the writer is stuck and holds bytes back, and else no fault is.
+pub record GivesOn {W P : Type 0} (sink : SinkOf W) (receives : P → List Call → P → Type 0) (output_of : P → Output W)
     (parser : Parser Utf8Parser) (performer : P) (piece : List ℕ)
     (parser_after : Parser Utf8Parser) (performer_after : P)
     (stopped : Option Ended) : Type 0 where
@@ -49,10 +50,13 @@ pub record GivesOn {W P : Type 0} (receives : P → List Call → P → Type 0) 
       → IsAfter front_of parser_after (as_read (before ++ piece))
   pub clear : IfNone stopped (fault_in (output_of performer_after) ≡ None)
   pub over : IfSome stopped (λ ended. is_stuck ended ≡ false → fault_in (output_of performer_after) ≢ None)
+  pub held : IfSome stopped
+      (λ ended. is_stuck ended ≡ true → HoldsBack sink (writer_in (output_of performer_after)))
 
 -- A new parser was given the front of a stream and what the source gave then, and its performer received the calls of
--- what is read of that. Unless the writer is stuck or a fault is kept, the source has ended.
-pub record Reads {R W P : Type 0} (source : SourceOf R) (receives : P → List Call → P → Type 0)
+-- what is read of that. Unless the writer is stuck or a fault is kept, the source has ended; where it is stuck it holds
+-- bytes back.
+pub record Reads {R W P : Type 0} (source : SourceOf R) (sink : SinkOf W) (receives : P → List Call → P → Type 0)
     (output_of : P → Output W) (front : List ℕ) (reached : Reached) (reader reader_after : R)
     (performer performer_after : P) (is_stuck : Bool) : Type 0 where
   pub rest : List ℕ
@@ -64,6 +68,7 @@ pub record Reads {R W P : Type 0} (source : SourceOf R) (receives : P → List C
   pub untouched : is_over reached ≡ true → (rest ≡ []) × (reader_after ≡ reader)
   pub ended : is_stuck ≡ false → fault_in (output_of performer_after) ≡ None
       → IsTrue at_end × (is_over reached ≡ false → HasEnded source reader_after (length (front ++ rest)))
+  pub held : is_stuck ≡ true → HoldsBack sink (writer_in (output_of performer_after))
 
 -- none of the bytes is ESC, with which each sequence begins
 abbrev pub HasNoEscape : List ℕ → Type 0

@@ -112,7 +112,8 @@ fn give<P: WritingPerformer<W>, W: Sink>(
     piece: &[u8],
 ) -> Option<Ended>
     requires { fault_in (P.output_in performer.old) ≡ None }
-    ensures { GivesOn P.receives P.output_in parser.old performer.old piece.now parser.new performer.new result }
+    ensures { GivesOn W.Sink P.receives P.output_in parser.old performer.old piece.now parser.new performer.new
+        result }
 {
     if piece.is_empty() {
         return None;
@@ -139,8 +140,8 @@ pub(crate) fn read_to<P: WritingPerformer<W>, R: Source, W: Sink>(
     reached: Reached,
 ) -> Ended
     requires { fault_in (P.output_in performer.old) ≡ None }
-    ensures { Reads R.Source P.receives P.output_in front.now reached reader.old reader.new performer.old performer.new
-        (is_stuck result) }
+    ensures { Reads R.Source W.Sink P.receives P.output_in front.now reached reader.old reader.new
+        performer.old performer.new (is_stuck result) }
 {
     let mut parser = Parser::<Utf8Parser>::new();
     let mut last = LastSequence { read: 0, begins: 0 };

@@ -11,16 +11,17 @@ use Rattle.ansi_strip.specs.Strip.{stripped_call, stripped}
 use Rattle.ansi_html.specs.declared.scheme.Styling.{Styling}
 use Rattle.ansi_html.specs.declared.scheme.Styling.TheVariants.{Inline, Classes}
 use Rattle.ansi_html.specs.Links.{has_scheme, is_visible, is_linkable, is_none, is_link_command, is_whole, uri_of, link_of, link_after}
-use Rattle.ansi_html.specs.Html.{Element, element, no_element, element_value, element_after, html}
+use Rattle.ansi_html.specs.Html.{Element, element, no_element, element_value, element_after, is_executed, html}
+use Rattle.ansi_html.specs.Affordable.{feed_counts, earned, is_paid, spare_after, link_kept, end_of_link, end_unpaid, affordable_from, affordable}
 use Rattle.ansi_html.specs.Lines.{lined_html}
-use Rattle.ansi_html.specs.Blocks.{blocked_html}
+use Rattle.ansi_html.specs.Blocks.{blocked_html, calls_seen}
 use Rattle.ansi_html.specs.Reader.{Shown, href_of, under, attributes_by, attributes_of, read, shown_from}
 use Rattle.ansi_html.proofs.ReadLemmas.{read-html}
 use Rattle.ansi_html.proofs.LineLemmas.{read-lined_html}
 use Rattle.ansi_html.proofs.BlockLemmas.{read-blocked_html}
 use Rattle.html_urls.specs.Addresses.{is_uri_byte, is_whole_byte, begins_scheme, max_held, address_of, address_length, behind_address, is_address, joins_after, is_link}
 use Rattle.html_urls.specs.Linked.{link_command, prints, released, released_as, linked_after, linked}
-use Rattle.html_urls.specs.Found.{Part, as_is, in_run, joins_call, AreFound, AreParts, with_link, hrefs_of, hrefs}
+use Rattle.html_urls.specs.Found.{Part, as_is, in_run, joins_call, AreFound, AreParts, with_link, hrefs_of, hrefs, spare_with, hrefs_paid, hrefs_in_blocks}
 use Rattle.html_urls.proofs.LawfulLemmas.{uri_byte-visible}
 use Rattle.html_urls.proofs.TextLemmas.{printed-append}
 use Rattle.html_urls.proofs.FoundLemmas.{found-linked}
@@ -161,6 +162,93 @@ seen-parts styling (in_run run ∷ parts) joins is_linked calls it are none =
     ∙ ap (λ (l : List (List ℕ)). hrefs_of (if is_link run then address_of run else []) (address_of run) ++ (hrefs_of [] (behind_address run) ++ l))
     (seen-parts styling parts (joins_after joins run) false are.0 (element it.style []) are.5 (λ _. refl))
 
+-- In lines: characters that are printed end no link, nor does an address.
+affordable-prints : (spare : ℕ) (link text : List ℕ) (more : List Call)
+    → affordable_from spare link (prints text ++ more) ≡ prints text ++ affordable_from (spare_with text spare) link more
+affordable-prints spare link [] more = refl
+affordable-prints spare link (c ∷ text) more =
+    ap (λ (l : List Call). print c ∷ l) (affordable-prints (spare_after (print c) spare []) link text more)
+
+spare-append : (text more : List ℕ) (spare : ℕ) → spare_with more (spare_with text spare) ≡ spare_with (text ++ more) spare
+spare-append [] more spare = refl
+spare-append (c ∷ text) more spare = spare-append text more (spare_after (print c) spare [])
+
+affordable-link : (spare : ℕ) (address behind : List ℕ) (more : List Call)
+    → affordable_from spare [] ((link_command address ∷ prints address ++ (link_command [] ∷ prints behind)) ++ more)
+    ≡ (link_command address ∷ prints address ++ (link_command [] ∷ prints behind)) ++ affordable_from (spare_with (address ++ behind) spare) [] more
+affordable-link spare address behind more =
+    let selected = link_of (codes "8" ∷ [] ∷ address ∷ []) in
+    let after = spare_with address spare in
+    ap (λ (l : List Call). link_command address ∷ affordable_from spare selected l) (append_assoc (prints address) (link_command [] ∷ prints behind) more)
+    ∙ ap (λ (l : List Call). link_command address ∷ l) (affordable-prints spare selected address (link_command [] ∷ (prints behind ++ more)))
+    ∙ ap (λ (link : List ℕ). link_command address ∷ (prints address ++ (link_command [] ∷ affordable_from after link (prints behind ++ more)))) link-ended
+    ∙ ap (λ (l : List Call). link_command address ∷ (prints address ++ (link_command [] ∷ l))) (affordable-prints after [] behind more)
+    ∙ ap (λ (left : ℕ). link_command address ∷ (prints address ++ (link_command [] ∷ (prints behind ++ affordable_from left [] more)))) (spare-append address behind spare)
+    ∙ ap (λ (l : List Call). link_command address ∷ l)
+    (sym (append_assoc (prints address) (link_command [] ∷ prints behind) (affordable_from (spare_with (address ++ behind) spare) [] more)))
+
+affordable-run : (spare : ℕ) (run : List ℕ) (more : List Call)
+    → affordable_from spare [] (released run ++ more) ≡ released run ++ affordable_from (spare_with run spare) [] more
+affordable-run spare run more = by (is_link run)
+  where
+    address : List ℕ
+    address = address_of run
+
+    behind : List ℕ
+    behind = behind_address run
+
+    by : (is : Bool) → affordable_from spare [] (released_as is address behind run ++ more) ≡ released_as is address behind run ++ affordable_from (spare_with run spare) [] more
+    by true =
+        affordable-link spare address behind more
+        ∙ ap (λ (text : List ℕ). released_as true address behind run ++ affordable_from (spare_with text spare) [] more) (take-append-drop (address_length (length run) run) run)
+    by false = affordable-prints spare [] run more
+
+-- what a reader sees after a call, where its link can't pay
+module _ (styling : Styling) (call : Call) (it : Element) (spare : ℕ) where
+  abbrev next : Element
+  next = element_after call it
+
+  kept-either : (feed paid : Bool) (more : List Call)
+      → shown_from styling next ((if feed && not paid then end_of_link ∷ [] else []) ++ more)
+      ≡ shown_from styling (element next.style (if feed then (if paid then next.link else []) else next.link)) more
+  kept-either false paid more = refl
+  kept-either true true more = refl
+  kept-either true false more = ap (λ (link : List ℕ). shown_from styling (element next.style link) more) link-ended
+
+  seen-kept : (more : List Call)
+      → shown_from styling next (end_unpaid call spare it.link ++ more) ≡ shown_from styling (element next.style (link_kept call spare it.link)) more
+  seen-kept more = kept-either (is_executed 0x0A call) (is_paid (earned feed_counts spare) (link_after call it.link)) more
+
+  kept-none : link_after call it.link ≡ [] → link_kept call spare it.link ≡ []
+  kept-none none = by (is_executed 0x0A call)
+    where
+      by : (feed : Bool) → (if feed then (if is_paid (earned feed_counts spare) (link_after call it.link) then link_after call it.link else []) else link_after call it.link) ≡ []
+      by true = none-either (is_paid (earned feed_counts spare) (link_after call it.link)) (link_after call it.link) none
+      by false = none
+
+seen-paid : (styling : Styling) (parts : List Part) (joins is_linked : Bool) (calls : List Call) (it : Element) (spare : ℕ) → AreFound joins is_linked calls parts
+    → (is_linked ≡ false → it.link ≡ []) → map href_of (shown_from styling it (affordable_from spare it.link (flat_map with_link parts))) ≡ hrefs_paid spare it.link parts
+seen-paid styling [] joins is_linked calls it spare are none = refl
+seen-paid styling (as_is call ∷ parts) joins is_linked calls it spare are none =
+    let next = element_after call it in
+    let left = spare_after call spare it.link in
+    let kept = link_kept call spare it.link in
+    let more = affordable_from left kept (flat_map with_link parts) in
+    map-append href_of (map (under (attributes_of styling it)) (stripped_call call)) (shown_from styling next (end_unpaid call spare it.link ++ more))
+    ∙ ap₂ (λ (l m : List (List ℕ)). l ++ m) (hrefs-under styling it (stripped_call call))
+    (ap (map href_of) (seen-kept styling call it spare more)
+    ∙ seen-paid styling parts (joins_call call) (linked_after call is_linked) are.0 (element next.style kept) left are.3
+    (λ is. kept-none styling call it spare (unlinked-after call is_linked it.link none is)))
+seen-paid styling (in_run run ∷ parts) joins is_linked calls it spare are none =
+    let others = flat_map with_link parts in
+    let left = spare_with run spare in
+    let more = affordable_from left [] others in
+    ap (λ (l : List ℕ). map href_of (shown_from styling (element it.style l) (affordable_from spare l (released run ++ others)))) (none are.2)
+    ∙ ap (λ (l : List Call). map href_of (shown_from styling (element it.style []) l)) (affordable-run spare run others)
+    ∙ seen-run styling it run more
+    ∙ ap (λ (l : List (List ℕ)). hrefs_of (if is_link run then address_of run else []) (address_of run) ++ (hrefs_of [] (behind_address run) ++ l))
+    (seen-paid styling parts (joins_after joins run) false are.0 (element it.style []) left are.5 (λ _. refl))
+
 -- So a reader sees these links.
 module _ (styling : Styling) (calls : List Call) (parts : List Part) (are : AreParts calls parts) where
   shown-hrefs : map href_of (shown_from styling no_element (linked calls)) ≡ hrefs [] parts
@@ -173,8 +261,19 @@ module _ (styling : Styling) (calls : List Call) (parts : List Part) (are : AreP
   pub html-hrefs : map href_of (read (html styling (linked calls))) ≡ hrefs [] parts
   html-hrefs = ap (map href_of) (read-html styling (linked calls)) ∙ shown-hrefs
 
-  pub lined-hrefs : map href_of (read (lined_html styling (linked calls))) ≡ hrefs [] parts
-  lined-hrefs = ap (map href_of) (read-lined_html styling (linked calls)) ∙ shown-hrefs
+  paid-hrefs : map href_of (shown_from styling no_element (affordable (linked calls))) ≡ hrefs_paid 0 [] parts
+  paid-hrefs =
+      let (found, found_are, same) = found-linked calls in
+      ap (λ (l : List Call). map href_of (shown_from styling no_element (affordable l))) same
+      ∙ seen-paid styling found false false calls no_element 0 found_are (λ _. refl)
+      ∙ ap (hrefs_paid 0 []) (parts-only calls found parts found_are are)
 
-  pub blocked-hrefs : (numbered : Bool) → map href_of (read (blocked_html numbered styling (linked calls))) ≡ hrefs [] parts
-  blocked-hrefs numbered = ap (map href_of) (read-blocked_html numbered styling (linked calls)) ∙ shown-hrefs
+  pub lined-hrefs : map href_of (read (lined_html styling (linked calls))) ≡ hrefs_paid 0 [] parts
+  lined-hrefs = ap (map href_of) (read-lined_html styling (linked calls)) ∙ paid-hrefs
+
+  pub blocked-hrefs : (numbered : Bool) → map href_of (read (blocked_html numbered styling (linked calls))) ≡ hrefs_in_blocks numbered parts
+  blocked-hrefs numbered = ap (map href_of) (read-blocked_html numbered styling (linked calls)) ∙ by numbered
+    where
+      by : (is : Bool) → map href_of (shown_from styling no_element (calls_seen is (linked calls))) ≡ hrefs_in_blocks is parts
+      by true = paid-hrefs
+      by false = shown-hrefs

@@ -6,6 +6,7 @@ use Rattle.std.specs.Prelude.{◌≡◌, ℕ, Bool, true, false, ◌⊎◌, List
 use Rattle.anstyle_parse.specs.Stream.Call.{Call, print}
 use Rattle.ansi_strip.specs.Strip.{stripped_call, stripped}
 use Rattle.ansi_html.specs.Links.{link_after}
+use Rattle.ansi_html.specs.Affordable.{spare_after, link_kept}
 use Rattle.html_urls.specs.Addresses.{is_scheme_byte, may_begin, joins_after, IsRun, address_of, behind_address, is_link}
 use Rattle.html_urls.specs.Linked.{prints, released, linked_after}
 
@@ -57,3 +58,23 @@ hrefs link (as_is call ∷ parts) = map (λ b. link) (stripped_call call) ++ hre
 hrefs link (in_run run ∷ parts) =
     hrefs_of (if is_link run then address_of run else []) (address_of run)
     ++ (hrefs_of [] (behind_address run) ++ hrefs [] parts)
+
+-- What is spare for links in lines, after characters that are printed.
+abbrev pub spare_with : (text : List ℕ) → (spare : ℕ) → ℕ
+spare_with [] spare = spare
+spare_with (c ∷ text) spare = spare_with text (spare_after (print c) spare [])
+
+-- The link of each byte in HTML that is in lines: the same, but that a link of the stream's own ends after a line feed over
+-- which it can't pay to go on. An address has none in it.
+abbrev pub hrefs_paid : (spare : ℕ) → (link : List ℕ) → List Part → List (List ℕ)
+hrefs_paid spare link [] = []
+hrefs_paid spare link (as_is call ∷ parts) =
+    map (λ b. link) (stripped_call call) ++ hrefs_paid (spare_after call spare link) (link_kept call spare link) parts
+hrefs_paid spare link (in_run run ∷ parts) =
+    hrefs_of (if is_link run then address_of run else []) (address_of run)
+    ++ (hrefs_of [] (behind_address run) ++ hrefs_paid (spare_with run spare) [] parts)
+
+-- in blocks, of text or of numbered lines
+abbrev pub hrefs_in_blocks : (numbered : Bool) → List Part → List (List ℕ)
+hrefs_in_blocks false parts = hrefs [] parts
+hrefs_in_blocks true parts = hrefs_paid 0 [] parts

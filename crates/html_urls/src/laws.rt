@@ -12,7 +12,7 @@ ghost use Rattle.ansi_html.specs.Reader.{href_of, read};
 ghost use Rattle.ansi_strip.specs.Strip.{stripped};
 ghost use Rattle.html_urls.specs.Addresses.{address_of, IsAddressOf};
 ghost use Rattle.html_urls.specs.Linked.{linked};
-ghost use Rattle.html_urls.specs.Found.{Part, AreParts, with_link, hrefs};
+ghost use Rattle.html_urls.specs.Found.{Part, AreParts, with_link, hrefs, hrefs_paid, hrefs_in_blocks};
 ghost use Rattle.html_urls.specs.Html.{urls_text, urls_ending, lined_urls_text, lined_urls_ending, blocked_urls_text, blocked_urls_ending};
 
 /// The links change no text: what stripping leaves of the calls with these links is what it leaves of the stream.
@@ -56,9 +56,11 @@ pub fn addresses()
     // stream has there, or in none.
     ensures links { (styling : Styling) (calls : List Call) (parts : List Part) → AreParts calls parts
         → map href_of (read (html styling (linked calls))) ≡ hrefs [] parts }
+
+    // In lines a link of the stream's own, and none to an address, ends after a line feed where it can't pay to go on.
     ensures lined { (styling : Styling) (calls : List Call) (parts : List Part) → AreParts calls parts
-        → map href_of (read (lined_html styling (linked calls))) ≡ hrefs [] parts }
+        → map href_of (read (lined_html styling (linked calls))) ≡ hrefs_paid 0 [] parts }
     ensures blocked { (numbered : Bool) (styling : Styling) (calls : List Call) (parts : List Part)
         → AreParts calls parts
-        → map href_of (read (blocked_html numbered styling (linked calls))) ≡ hrefs [] parts }
+        → map href_of (read (blocked_html numbered styling (linked calls))) ≡ hrefs_in_blocks numbered parts }
 {}

@@ -10,7 +10,7 @@ use Rattle.anstyle_parse.specs.declared.io.devices.Sink.{Ghosts as SinkOf}
 use Rattle.anstyle_parse.specs.declared.io.devices.Source.{Ghosts as SourceOf}
 use Rattle.anstyle_parse.specs.declared.io.output.Output.{Output}
 use Rattle.anstyle_parse.specs.Io.AddingProof.{AddsAt, Adds-nil}
-use Rattle.anstyle_parse.specs.Io.Output.{fault_in, Adds, AddsAll, AddsPrefix}
+use Rattle.anstyle_parse.specs.Io.Output.{writer_in, fault_in, HoldsBack, Adds, AddsAll, AddsPrefix}
 use Rattle.anstyle_parse.specs.Stream.Call.{Call}
 use Rattle.anstyle_parse.specs.Stream.Calls.{Continues}
 use Rattle.anstyle_parse.specs.Stream.Canon.{canon}
@@ -185,9 +185,10 @@ module _ {W : Type 0} (sink : SinkOf W) where
 
   -- what is read no more, since what was written does not get on
   pub stops-there : (T at_end : Type 0) (failed failed_after : Bool) (count : ℕ) (text : List ℕ) (a b : Output W) → Adds sink text a b
-      → fault_in a ≡ None → (stopped : Stopped) → GetsOn {T = T} (Err stopped) (fault_in b) → failed_after ≡ failed
-      → StopsBy {T = T} (Err stopped) at_end (fault_in b) failed failed_after count
-  stops-there T at_end failed failed_after count text a b added none Stuck gets kept = (gets, kept)
+      → fault_in a ≡ None → (stopped : Stopped) → GetsOn {T = T} (Err stopped) (fault_in b) (HoldsBack sink (writer_in b))
+      → failed_after ≡ failed
+      → StopsBy {T = T} (Err stopped) at_end (fault_in b) (HoldsBack sink (writer_in b)) failed failed_after count
+  stops-there T at_end failed failed_after count text a b added none Stuck gets kept = (gets.0, gets.1, kept)
   stops-there T at_end failed failed_after count text a b added none (AtFault Write) gets kept = (write-fault text a b added none gets, kept)
   stops-there T at_end failed failed_after count text a b added none (AtFault Read) gets kept = absurd gets
   stops-there T at_end failed failed_after count text a b added none (AtFault Flush) gets kept = absurd gets
@@ -224,7 +225,7 @@ pub follows : {R W T : Type 0} (source : SourceOf R) (sink : SinkOf W) (reader r
     → Consumes (source.remaining reader) (source.remaining reader_after) (joined pieces) → AllByRecursion IsPiece pieces
     → AreScreens first [] pieces screens → last ≡ with_shown last.display.shown (last_of first screens)
     → Draws sink (drawn_calls first.display) a b → Draws sink (updates_calls first screens) b c
-    → StopsBy answer (IsTrue source.zero_is_end → IsAtEnd (source.remaining reader_after)) (fault_in c)
+    → StopsBy answer (IsTrue source.zero_is_end → IsAtEnd (source.remaining reader_after)) (fault_in c) (HoldsBack sink (writer_in c))
     (source.has_failed reader) (source.has_failed reader_after) (length (joined pieces))
     → Follows source sink reader reader_after first last a c answer
 follows source sink reader reader_after first last a b c answer pieces screens consumed each are is begun updated stops =

@@ -7,7 +7,7 @@ use Rattle.anstyle_parse.specs.declared.io.Fault.TheVariants.{Write}
 use Rattle.anstyle_parse.specs.declared.io.devices.Sink.{Ghosts as SinkOf}
 use Rattle.anstyle_parse.specs.declared.io.devices.Source.{Ghosts as SourceOf}
 use Rattle.anstyle_parse.specs.declared.io.output.Output.{Output}
-use Rattle.anstyle_parse.specs.Io.Output.{fault_in, Adds}
+use Rattle.anstyle_parse.specs.Io.Output.{writer_in, fault_in, HoldsBack, Adds}
 use Rattle.anstyle_parse.specs.Io.Run.{EndsAs}
 use Rattle.anstyle_parse.specs.Stream.Call.{Call}
 use Rattle.anstyle_parse.specs.Stream.Calls.{AreCalls}
@@ -65,21 +65,22 @@ IsPiece piece = (0 < length piece) × (length piece ≤ most_piece)
 
 -- Whether what was written gets on: the output keeps no fault; or one; or none, but its writer could not pass on what
 -- it holds back.
-abbrev pub GetsOn : {T : Type 0} → Result T Stopped → (fault : Option Fault) → Type 0
-GetsOn (Ok done) fault = fault ≡ None
-GetsOn (Err Stuck) fault = fault ≡ None
-GetsOn (Err (AtFault Write)) fault = IsSome fault
-GetsOn (Err (AtFault _)) fault = ⊥
+abbrev pub GetsOn : {T : Type 0} → Result T Stopped → (fault : Option Fault) → (held : Type 0) → Type 0
+GetsOn (Ok done) fault held = fault ≡ None
+GetsOn (Err Stuck) fault held = (fault ≡ None) × held
+GetsOn (Err (AtFault Write)) fault held = IsSome fault
+GetsOn (Err (AtFault _)) fault held = ⊥
 
--- Why no more was read: a write failed; or all was given to the writer, which could not pass on what it holds back; or
+-- Why no more was read: a write failed; or all was given to the writer, which holds back what it could not pass on; or
 -- as `EndsAs` has it.
-abbrev pub StopsBy : {T : Type 0} → Result T Stopped → (at_end : Type 0) → (fault : Option Fault)
+abbrev pub StopsBy : {T : Type 0} → Result T Stopped → (at_end : Type 0) → (fault : Option Fault) → (held : Type 0)
     → (failed failed_after : Bool) → ℕ → Type 0
-StopsBy (Err Stuck) at_end fault failed failed_after count = (fault ≡ None) × (failed_after ≡ failed)
-StopsBy (Err (AtFault Write)) at_end fault failed failed_after count = (fault ≡ Some Write) × (failed_after ≡ failed)
-StopsBy {T} (Err (AtFault other)) at_end fault failed failed_after count =
+StopsBy (Err Stuck) at_end fault held failed failed_after count = (fault ≡ None) × held × (failed_after ≡ failed)
+StopsBy (Err (AtFault Write)) at_end fault held failed failed_after count =
+    (fault ≡ Some Write) × (failed_after ≡ failed)
+StopsBy {T} (Err (AtFault other)) at_end fault held failed failed_after count =
     (fault ≡ None) × EndsAs {T = T} (Err other) at_end failed failed_after count
-StopsBy {T} (Ok done) at_end fault failed failed_after count =
+StopsBy {T} (Ok done) at_end fault held failed failed_after count =
     (fault ≡ None) × EndsAs {T = T} (Ok done) at_end failed failed_after count
 
 -- A terminal of the size of a screen shows another one by these bytes, whatever it showed before, but for the rows that
@@ -107,4 +108,4 @@ pub record Follows {R W T : Type 0} (source : SourceOf R) (sink : SinkOf W) (rea
       → LeadsTo first (canon (followed_calls first (take count screens))) (last_of first (take count screens))
   pub stops : StopsBy answer
       (IsTrue source.zero_is_end → IsAtEnd (source.remaining reader_after)) (fault_in output_after)
-      (source.has_failed reader) (source.has_failed reader_after) (length (joined pieces))
+      (HoldsBack sink (writer_in output_after)) (source.has_failed reader) (source.has_failed reader_after) (length (joined pieces))

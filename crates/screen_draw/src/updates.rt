@@ -1,6 +1,6 @@
 //! Updates, after each piece of a stream.
 ghost use Rattle.std.specs.Prelude.{◌≡◌, ◌++◌, [], ℕ, List, None};
-ghost use Rattle.anstyle_parse.specs.Io.Output.{fault_in, Adds};
+ghost use Rattle.anstyle_parse.specs.Io.Output.{writer_in, fault_in, HoldsBack, Adds};
 ghost use Rattle.anstyle_parse.specs.Views.Accumulator.{front_of};
 ghost use Rattle.anstyle_parse.specs.Views.Parser.{IsAfter};
 ghost use Rattle.ansi_screen.specs.After.{State, Shows};
@@ -88,7 +88,7 @@ pub enum Stopped {
 /// Hands on what was written, and answers what keeps it from getting on.
 fn hand_on<W: Sink>(output: &mut Output<W>) -> Result<(), Stopped>
     ensures passed { Adds W.Sink [] output.old output.new }
-    ensures answer { GetsOn result (fault_in output.new) }
+    ensures answer { GetsOn result (fault_in output.new) (HoldsBack W.Sink (writer_in output.new)) }
 {
     output.pass_on();
     if output.fault().is_some() {
@@ -114,8 +114,8 @@ fn hand_on<W: Sink>(output: &mut Output<W>) -> Result<(), Stopped>
 /// - `Ok(())` where the reader is at its end;
 /// - `Err(AtFault(Fault::Read))` where a read failed, or 2^64 - 1 reads all gave bytes;
 /// - `Err(AtFault(Fault::Write))` where a write failed: nothing was read after it;
-/// - `Err(Stuck)` where what the writer holds back could not be passed on ([`Output::is_stuck`]): all was given to the
-///   writer, and nothing was read after it.
+/// - `Err(Stuck)` where what the writer holds back could not be passed on ([`Output::is_stuck`]): all that was drawn was
+///   given to the writer, which holds some of it back, and nothing was read after it.
 pub fn update_to_end<R: Source, W: Sink>(
     reader: &mut R,
     shown: &mut Screen,

@@ -7,6 +7,7 @@ use Rattle.anstyle_parse.proofs.Written.Run.{Runs-same}
 use Rattle.ansi_strip.proofs.Showable.{AreShowable-lawful}
 use Rattle.ansi_html.specs.Lines.{lined_text, lined_ending}
 use Rattle.ansi_html.specs.Liner.{text_from, ending_from}
+use Rattle.ansi_html.proofs.AffordableLemmas.{same-affordable}
 use Rattle.ansi_html.proofs.WriterLemmas.{lined_text_from-new, lined_ending_from-new}
 use Rattle.ansi_html.proofs.LineLemmas.{seen-lined_html, read-lined_html, text-lined_html, IsUtf8-lined_html}
 use Rattle.ansi_html.proofs.NumberLemmas.{AreLines-html}
@@ -39,6 +40,9 @@ returns-clause-runs g c =
 
 pub returns-clause-same : goal.returns-clause-same
 returns-clause-same g c = seen-lined_html c.args.styling
+
+pub returns-clause-short_links : goal.returns-clause-short_links
+returns-clause-short_links g c = same-affordable
 
 pub returns-clause-read_back : goal.returns-clause-read_back
 returns-clause-read_back g c = read-lined_html c.args.styling

@@ -288,7 +288,7 @@ impl Display {
     }
 
     /// The same, where the row ends.
-    fn insert_cells(&mut self, count: usize)
+    pub(super) fn insert_cells(&mut self, count: usize)
         requires { self.old.cursor.column < self.old.width }
         ensures { self.new ≡ with_cells (inserted count (here self.old) (row_end self.old) (space self.old)
             self.old.cells) self.old }

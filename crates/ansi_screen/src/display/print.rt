@@ -1,5 +1,6 @@
 //! Printing a character.
-ghost use Rattle.std.specs.Prelude.{◌≡◌, ◌+◌, ◌<◌, ◌≤◌, min, length};
+ghost use Rattle.std.specs.Prelude.{◌≡◌, true, ◌+◌, ◌*◌, ◌<◌, ◌≤◌, min, length};
+ghost use Rattle.ansi_screen.specs.Widths.{is_shown, columns};
 ghost use Rattle.std.specs.Fn.{iterate};
 ghost use Rattle.anstyle_parse.specs.Stream.Items.{EachIs};
 ghost use Rattle.ansi_screen.specs.Print.{drawn, wrapped, with_room, with_glyph, put, marked, shown, printed, printed_again};
@@ -81,13 +82,59 @@ impl Display {
         }
     }
 
-    /// REP
-    fn print_times(&mut self, count: usize, c: char)
+    /// The same so many times, one by one.
+    fn print_one_by_one(&mut self, count: usize, c: char)
         ensures { self.new ≡ iterate (printed_again c) count self.old }
     {
         for _done in 0..count {
             self.print_again(c);
         }
+    }
+
+    /// How often the row has room for a character that is inserted and takes columns.
+    fn insertable(&self, c: char) -> usize
+        ensures fits { self.now.cursor.column + result * columns c ≤ self.now.width }
+        ensures inserts { 0 < result → self.now.inserts ≡ true }
+        ensures shown { 0 < result → is_shown c ≡ true }
+        ensures some { 0 < result → 0 < columns c }
+    {
+        let columns = usize::from(columns(c));
+        let column = self.cursor.column;
+        if self.inserts && is_shown(c) && columns > 0 {
+            (self.cells.width() - column) / columns
+        } else {
+            0
+        }
+    }
+
+    /// The character so many times in insert mode, for which there is room: the rest of the row moves once for all of
+    /// them, and then nothing moves any more.
+    fn insert_times(&mut self, count: usize, c: char)
+        requires inserts { self.old.inserts ≡ true }
+        requires shown { is_shown c ≡ true }
+        requires some { 0 < columns c }
+        requires count { 0 < count }
+        requires fits { self.old.cursor.column + count * columns c ≤ self.old.width }
+        ensures { self.new ≡ iterate (printed_again c) count self.old }
+    {
+        // (for the proof: halves stand in pairs)
+        let _ = self.cells.width();
+        self.set_goes_on(false);
+        self.insert_cells(count * usize::from(columns(c)));
+        self.inserts = false;
+        self.print_one_by_one(count, c);
+        self.inserts = true;
+    }
+
+    /// REP
+    fn print_times(&mut self, count: usize, c: char)
+        ensures { self.new ≡ iterate (printed_again c) count self.old }
+    {
+        let fitting = count.min(self.insertable(c));
+        if fitting > 0 {
+            self.insert_times(fitting, c);
+        }
+        self.print_one_by_one(count - fitting, c);
     }
 
     /// REP, of the character that was printed just before.

@@ -15,6 +15,10 @@ writer_in output = output.writer
 abbrev pub fault_in : {W : Type 0} → Output W → Option Fault
 fault_in output = output.fault
 
+-- the writer holds bytes back
+abbrev pub HoldsBack : {W : Type 0} → SinkOf W → W → Type 0
+HoldsBack sink writer = sink.holds_nothing writer → ⊥
+
 -- The whole text is written: no fault, and the writer has failed only if it had before.
 pub record AddsAll {W : Type 0} (sink : SinkOf W) (text : List ℕ) (old new : Output W) : Type 0 where
   pub written : Appends (sink.contents (writer_in old)) (sink.contents (writer_in new)) text

@@ -109,7 +109,9 @@ pub trait Sink {
 
     /// Whether bytes that are held back could not be passed on, and no answer has said so. With false
     /// nothing is known.
-    fn is_stuck(&self) -> bool {
+    fn is_stuck(&self) -> bool
+        ensures held { OnTrue result (holds_nothing self.now → ⊥) }
+    {
         false
     }
 }

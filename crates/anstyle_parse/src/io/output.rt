@@ -1,5 +1,6 @@
 //! The writing that performers share.
 ghost use Rattle.std.specs.Prelude.{◌≡◌, ◌∷◌, [], ℕ, List, decimal, if◌then◌else◌, None, Some, Ok, Err, IsNone, OnSome, OnOk, OnErr, IsTrue, encode_utf8};
+ghost use Rattle.std.specs.Bool.{OnTrue};
 ghost use Rattle.std.specs.Io.KnownBytes.{Keeps};
 ghost use Rattle.anstyle_parse.specs.Stream.Groups.{fields_text, groups_text};
 ghost use Rattle.anstyle_parse.specs.Io.Output.{Adds};
@@ -19,7 +20,7 @@ pub struct Output<W> {
 }
 
 impl<W: Sink> Output<W> {
-    ghost use Rattle.anstyle_parse.specs.Io.Output.{writer_in, fault_in, Finishes};
+    ghost use Rattle.anstyle_parse.specs.Io.Output.{writer_in, fault_in, HoldsBack, Finishes};
 
     /// An output with no fault, which has written nothing.
     pub fn new(writer: W) -> Output<W>
@@ -136,7 +137,9 @@ impl<W: Sink> Output<W> {
 
     /// Whether the writer holds bytes back that it could not pass on ([`Sink::is_stuck`]). With false
     /// nothing is known.
-    pub fn is_stuck(&self) -> bool {
+    pub fn is_stuck(&self) -> bool
+        ensures held { OnTrue result (HoldsBack W.Sink (writer_in self.now)) }
+    {
         self.writer.is_stuck()
     }
 

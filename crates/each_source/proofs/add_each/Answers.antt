@@ -4,10 +4,10 @@ use Rattle.std.specs.Bool.{⊤}
 use Rattle.std.proofs.lemmas.List.{set-get_or}
 use Rattle.std.specs.List.{flat_map}
 use Rattle.std.proofs.lemmas.Grind.{flat_map-append}
-use Rattle.anstyle_parse.specs.Io.Output.{fault_in, Adds}
+use Rattle.anstyle_parse.specs.Io.Output.{writer_in, fault_in, Adds}
 use Rattle.anstyle_parse.proofs.Written.Output.{Adds-append, Adds-nil, None-from_is_some}
-use Rattle.each_source.proofs.EachLemmas.{IsRead-when, AreRead-when, AreRead-push_at, AreRead-begin_at}
-use Rattle.each_source.specs.Each.{Given, AreRead}
+use Rattle.each_source.proofs.EachLemmas.{IsRead-when, AreRead-when, AreRead-push_at, AreRead-begin_at, WasHeld-after, whole_unless_fault}
+use Rattle.each_source.specs.Each.{Given, AreRead, WasHeld}
 use Rattle.each_source.proofs.add_each.Goals as goal
 
 pub loop-reader-init : goal.loop-reader-init
@@ -29,6 +29,7 @@ returns-then-is_some g c =
           (AreRead-when g.R.Source _ c.args.readers.now c.loop-reader.readers before.given (λ whole. whole.1) before.are_read);
       added = before.added;
       reaches = λ clear. absurd (let clash : true ≡ false = sym c.if-is_some.true ∙ c.is_some.ensures ∙ ap is_some c.fault.ensures ∙ ap is_some clear in cc);
+      held = tt;
     }
 
 pub returns-then-is_stuck : goal.returns-then-is_stuck
@@ -46,6 +47,11 @@ returns-then-is_stuck g c =
       added = subst (λ (t : List ℕ). Adds g.W.Sink t c.args.output c.in-Ok.after) (sym joined)
           (Adds-append g.W.Sink (flat_map text before.given) (text one.given) c.args.output c.loop-reader.output c.in-Ok.after before.added one.added);
       reaches = (one.clear c.if-is_stuck.true, omega (arith, length-append before.given (one.given ∷ []), before.count, c.loop-reader-test.true));
+      held = subst (λ (t : List ℕ). WasHeld g.W.Sink t (writer_in c.args.output)) (sym joined)
+          (WasHeld-after g.W.Sink (flat_map text before.given) (text one.given) (writer_in c.args.output) (writer_in c.loop-reader.output)
+          (whole_unless_fault g.W.Sink (flat_map text before.given) c.args.output c.loop-reader.output
+          (None-from_is_some (fault_in c.loop-reader.output) (sym (c.is_some.ensures ∙ ap is_some c.fault.ensures) ∙ c.if-is_some.false)) before.added)
+          (one.held c.if-is_stuck.true));
     }
 
 pub returns-in-Err : goal.returns-in-Err
@@ -60,6 +66,7 @@ returns-in-Err g c =
           (AreRead-when g.R.Source _ c.args.readers.now c.loop-reader.readers before.given (λ whole. clear) before.are_read) c.in-Err.ensures.begun;
       added = subst (λ o. Adds g.W.Sink (flat_map (λ given. g.B.Begin.text c.args.begin.now given ++ g.B.Begin.ending c.args.begin.now given) before.given) c.args.output o) (sym kept) before.added;
       reaches = (ap fault_in kept ∙ clear, omega (arith, before.count, c.loop-reader-test.true));
+      held = tt;
     }
 
 pub returns : goal.returns
@@ -70,6 +77,7 @@ returns g c =
       are_read = AreRead-when g.R.Source _ c.args.readers.now c.loop-reader.readers before.given (λ whole. whole.1) before.are_read;
       added = before.added;
       reaches = λ clear. omega (arith, before.count, before.within, c.loop-reader-test.false);
+      held = tt;
     }
 
 pub loop-reader-preserved : goal.loop-reader-preserved

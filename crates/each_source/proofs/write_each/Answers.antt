@@ -2,12 +2,13 @@
 use Rattle.std.proofs.Common.{◌++◌, ℕ, List, sym, ◌∙◌, subst}
 use Rattle.std.specs.List.{flat_map}
 use Rattle.std.specs.Io.KnownBytes.{Appends}
+use Rattle.anstyle_parse.specs.Io.Output.{writer_in}
 use Rattle.anstyle_parse.proofs.Written.Run.{Adds-no_fault}
 use Rattle.anstyle_parse.proofs.Written.Output.{Adds-append, Writes-finish, Causes-finish}
 use Rattle.each_source.specs.Each.{Given, WritesEach, stopped_by}
 use Rattle.each_source.specs.declared.Stopped.{Stopped}
 use Rattle.std.specs.Prelude.{Result}
-use Rattle.each_source.proofs.EachLemmas.{AreRead-known, written_whole, clear_or_written, WritesEach-from, WritesEach-stopped, reached_all, whole_unless_stopped}
+use Rattle.each_source.proofs.EachLemmas.{AreRead-known, whole_unless_fault, written_whole, clear_or_written, WritesEach-from, WritesEach-stopped, reached_all, whole_unless_stopped}
 use Rattle.each_source.proofs.write_each.Goals as goal
 
 pub returns-then-is_err-clause-joined : goal.returns-then-is_err-clause-joined
@@ -23,6 +24,8 @@ returns-then-is_err-clause-joined g c =
     let both = Adds-append sink head texts start first middle c.put.ensures d.added in
     WritesEach-stopped sink g.R.Source text head c.args.tail.now c.args.readers.now c.add_each-output.new.readers c.args.writer c.finish-writer.result.0 first middle
     c.add_each-output.result.1 (sym c.is_err.ensures.value ∙ c.if-is_err.true) d
+    (λ none. subst (λ w. Appends (sink.contents w) (sink.contents (writer_in first)) head) c.new-output.ensures.writer
+    (whole_unless_fault sink head start first (Adds-no_fault g.row.R.Denot g.row.W.Denot (Unit {0}) g.R.Source sink texts first middle d.added none) c.put.ensures))
     (λ none. subst (λ w. Appends (sink.contents w) (sink.contents c.finish-writer.result.0) (head ++ texts)) c.new-output.ensures.writer
     (written_whole sink (head ++ texts) start middle c.finish-writer.result.0 c.finish-writer.result.1 c.new-output.ensures.no_fault none both c.finish-writer.ensures.finishes))
 

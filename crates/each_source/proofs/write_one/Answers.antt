@@ -1,12 +1,14 @@
 -- What the performer received is written, and then its ending.
 use Rattle.std.proofs.Common.{◌≡◌, ◌++◌, [], ℕ, List, true, not, None, is_some, take, sym, ap, ◌∙◌, ap₂, subst, arith, length-take}
+use Rattle.std.specs.Io.KnownBytes.{Appends}
 use Rattle.std.proofs.KnownBytes.{Consumes-trans}
+use Rattle.std.proofs.lemmas.Bool.{and_parts}
 use Rattle.std.proofs.lemmas.Result.{err_from_is_err_and}
-use Rattle.anstyle_parse.specs.Io.Output.{Adds, fault_in}
+use Rattle.anstyle_parse.specs.Io.Output.{writer_in, Adds, fault_in}
 use Rattle.anstyle_parse.proofs.Written.Run.{Adds-unless_stopped, Adds-no_fault}
 use Rattle.anstyle_parse.proofs.Written.Output.{Adds-append, None-from_is_some}
 use Rattle.each_source.specs.Each.{Given}
-use Rattle.each_source.proofs.EachLemmas.{not_stuck, is_clear, not_is}
+use Rattle.each_source.proofs.EachLemmas.{not_stuck, not_is, whole_unless_fault}
 use Rattle.each_source.proofs.ReadLemmas.{enough-front, has-ended}
 use Rattle.each_source.proofs.write_one.Goals as goal
 
@@ -35,6 +37,8 @@ returns-clause-written g c =
     let is_enough = enough-front g.R.Source (g.B.Begin.enough c.args.begin.now) c.read_front-count.new.reader front d.rest d.calls c.read_front-count.result.1 f.reached (λ over. (d.untouched over).0) in
     let text = subst (λ (t : List ℕ). Adds sink t start final) (ap₂ (λ t e. t ++ e) (begun.text given is_enough) (begun.ending given is_enough)) both in
     let faulty : is_some (fault_in final) ≡ not c.is_none-is_clear.result = ap is_some (sym c.fault.ensures) ∙ c.is_none-is_clear.ensures in
+    let unless_fault : c.is_none-is_clear.result ≡ true → fault_in final ≡ None = λ clear. None-from_is_some (fault_in final) (faulty ∙ ap not clear) in
+    let parts = ap₂ (λ t e. t ++ e) (begun.text given is_enough) (begun.ending given is_enough) in
     let none_is_clear : fault_in final ≡ None → c.is_none-is_clear.result ≡ true = λ none. not_is (c.is_none-is_clear.result) (sym faulty ∙ ap is_some none) in
     record {
       given = given;
@@ -46,7 +50,18 @@ returns-clause-written g c =
             let ends = d.ended (sym c.is_stuck-is_stuck.ensures ∙ not_stuck c.is_stuck-is_stuck.result c.is_none-is_clear.result whole.0 (none_is_clear whole.1)) (Adds-no_fault R W (Unit {0}) g.R.Source sink left middle final own whole.1) in
             (ends.0, has-ended g.R.Source (g.B.Begin.enough c.args.begin.now) c.read_front-count.new.reader c.read_to-ended.new.reader front d.rest c.read_front-count.result.1 f.reached (λ over. (d.untouched over).1) ends.1);
       };
-      clear = λ stuck. None-from_is_some (fault_in final) (faulty ∙ ap not (is_clear c.is_stuck-is_stuck.result c.is_none-is_clear.result stuck));
+      clear = λ stuck. unless_fault (and_parts c.is_stuck-is_stuck.result c.is_none-is_clear.result stuck).1;
+      held = λ stuck. record {
+        given = written;
+        left = left;
+        joined = sym parts;
+        holder = writer_in middle;
+        written = subst (λ o. Appends (sink.contents (writer_in o)) (sink.contents (writer_in middle)) written) begun.output
+            (whole_unless_fault sink written start middle
+            (Adds-no_fault R W (Unit {0}) g.R.Source sink left middle final own (unless_fault (and_parts c.is_stuck-is_stuck.result c.is_none-is_clear.result stuck).1))
+            performed);
+        holds_back = d.held (sym c.is_stuck-is_stuck.ensures ∙ (and_parts c.is_stuck-is_stuck.result c.is_none-is_clear.result stuck).0);
+      };
       added = subst (λ o. Adds sink (g.B.Begin.text c.args.begin.now given ++ g.B.Begin.ending c.args.begin.now given) o final) begun.output text;
     }
 

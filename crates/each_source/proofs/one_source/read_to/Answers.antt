@@ -25,6 +25,7 @@ returns-in-Some g c =
       received = received;
       untouched = λ over. (refl, refl);
       ended = λ moving clear. absurd (c.in-Some.ensures.over moving clear);
+      held = c.in-Some.ensures.held;
     }
 
 pub returns-in-End : goal.returns-in-End
@@ -43,6 +44,7 @@ returns-in-End g c =
       received = received;
       untouched = λ over. (refl, refl);
       ended = λ moving clear. (refl, λ more. absurd (over-at c.args.reached End c.in-End.is refl more));
+      held = λ stuck. absurd (let clash : true ≡ false = sym stuck ∙ c.at_end.ensures in cc);
     }
 
 pub returns-in-Failure : goal.returns-in-Failure
@@ -61,6 +63,7 @@ returns-in-Failure g c =
       received = received;
       untouched = λ over. (refl, refl);
       ended = λ moving clear. (refl, λ more. absurd (over-at c.args.reached Failure c.in-Failure.is refl more));
+      held = λ stuck. absurd (let clash : false ≡ true = stuck in cc);
     }
 
 pub loop-turn-init : goal.loop-turn-init
@@ -98,6 +101,7 @@ returns-in-Some-stopped g c =
       received = received;
       untouched = λ over. absurd (not-over c.args.reached c.in-Middle.is over);
       ended = λ moving clear. absurd (c.in-Some-stopped.ensures.over moving clear);
+      held = c.in-Some-stopped.ensures.held;
     }
 
 pub loop-turn-preserved : goal.loop-turn-preserved
@@ -135,6 +139,7 @@ returns-in-None g c =
       received = received;
       untouched = λ over. absurd (not-over c.args.reached c.in-Middle.is over);
       ended = λ moving clear. (refl, λ more. inr (inl c.in-None.ensures.failed));
+      held = λ stuck. absurd (let clash : false ≡ true = stuck in cc);
     }
 
 pub returns-in-Some-eq0 : goal.returns-in-Some-eq0
@@ -156,6 +161,7 @@ returns-in-Some-eq0 g c =
       received = received;
       untouched = λ over. absurd (not-over c.args.reached c.in-Middle.is over);
       ended = λ moving clear. (refl, λ more. inl (c.in-Some-eq0.ensures.end zero (omega (arith, c.read.auto.into, before.room))));
+      held = λ stuck. absurd (let clash : true ≡ false = sym stuck ∙ c.at_end-in-Some-eq0.ensures in cc);
     }
 
 pub returns : goal.returns
@@ -173,4 +179,5 @@ returns g c =
       received = received;
       untouched = λ over. absurd (not-over c.args.reached c.in-Middle.is over);
       ended = λ moving clear. (refl, λ more. inr (inr (omega (arith, before.counted, length-append front before.rest, c.loop-turn-test.false, c.loop-turn.auto.turn-end))));
+      held = λ stuck. absurd (let clash : false ≡ true = stuck in cc);
     }

@@ -4,7 +4,7 @@ use Rattle.std.specs.Prelude.{if◌then◌else◌}
 use Rattle.anstyle_parse.specs.Io.Output.{Adds}
 use Rattle.anstyle_parse.proofs.Written.Output.{Adds-nil}
 use Rattle.ansi_html.specs.Html.{Standing}
-use Rattle.ansi_html.specs.Lines.{lined, line_begin, next_number}
+use Rattle.ansi_html.specs.Lines.{lined, line_begin, next_number, text_number}
 use Rattle.ansi_html.specs.Liner.{output_of, lined_of}
 use Rattle.ansi_html.proofs.lines.LinesWriter.begin_text.Goals as goal
 
@@ -12,7 +12,8 @@ pub returns-then-not-self-clause-standing : goal.returns-then-not-self-clause-st
 returns-then-not-self-clause-standing g c =
     let it = lined_of c.args.self.now in
     let number = ap (λ (is : Bool). if is then it.number else next_number it.number) c.if-not-self.true in
-    ap₂ (λ (at : Standing) (n : ℕ). lined at n true) c.begin_line.ensures.standing (c.next_number-self.ensures ∙ sym number)
+    ap₂ (λ (at : Standing) (n : ℕ). lined at n true c.earned-self.result) c.begin_line.ensures.standing (c.next_number-self.ensures ∙ sym number)
+    ∙ ap (lined it.at (text_number it) true) c.earned-self.ensures
 
 pub returns-then-not-self-clause-added : goal.returns-then-not-self-clause-added
 returns-then-not-self-clause-added g c =
@@ -25,7 +26,8 @@ pub returns-else-not-self-clause-standing : goal.returns-else-not-self-clause-st
 returns-else-not-self-clause-standing g c =
     let it = lined_of c.args.self.now in
     let number = ap (λ (is : Bool). if is then it.number else next_number it.number) c.if-not-self.false in
-    ap₂ (λ (n : ℕ) (is : Bool). lined it.at n is) (sym number) c.if-not-self.false
+    ap₂ (λ (n : ℕ) (is : Bool). lined it.at n is c.earned-self.result) (sym number) c.if-not-self.false
+    ∙ ap (lined it.at (text_number it) true) c.earned-self.ensures
 
 pub returns-else-not-self-clause-added : goal.returns-else-not-self-clause-added
 returns-else-not-self-clause-added g c =

@@ -1,5 +1,5 @@
 -- A line feed, other layout, and a control that is no text.
-use Rattle.std.proofs.Common.{[], ◌∷◌, ◌<◌, Bool, length, sym, subst, ◌∙◌, arith}
+use Rattle.std.proofs.Common.{[], ◌∷◌, Bool, length, sym, ap, subst, ◌∙◌, arith}
 use Rattle.std.specs.Prelude.{if◌then◌else◌}
 use Rattle.std.proofs.lemmas.Bool.{ne_eqb}
 use Rattle.anstyle_parse.specs.Stream.Call.{execute}
@@ -17,9 +17,9 @@ returns-then-is_layout g c =
     let byte = c.args.byte in
     let is = c.begin_text.ensures in
     let layout = sym c.is_layout.ensures ∙ c.if-is_layout.true in
-    TakesCall-text g.W.Sink c.args.self.now c.begin_text.new.self (record { styling = is.styling; standing = is.standing; added = is.added })
-    (execute byte) (ne_eqb byte 0x0A c.if-byte-eq10.false)
-    (subst (λ (text : Bool). 0 < length (if text then byte ∷ [] else [])) (sym layout) (omega arith)) c.execute.new.self c.execute.ensures
+    let one = ap (λ (text : Bool). length (if text then byte ∷ [] else [])) layout in
+    TakesCall-text g.W.Sink 1 c.args.self.now c.begin_text.new.self (record { styling = is.styling; standing = is.standing; added = is.added })
+    (execute byte) (ne_eqb byte 0x0A c.if-byte-eq10.false) (omega (arith, one)) (sym one) c.execute.new.self c.execute.ensures
 
 pub returns-else-is_layout : goal.returns-else-is_layout
 returns-else-is_layout g c =

@@ -1,4 +1,4 @@
-use Rattle.std.proofs.Common.{List, length, map, eqb-true, sym, ap, subst, ◌∙◌}
+use Rattle.std.proofs.Common.{List, length, map, eqb-true, refl, sym, ap, subst, ◌∙◌}
 use Rattle.std.specs.Str.{chars}
 use Rattle.std.proofs.lemmas.List.{nil_from_length}
 use Rattle.std.proofs.lemmas.Str.{chars-nil}
@@ -14,7 +14,7 @@ returns-then-not-is_empty g c =
     let text = c.args.text.now in
     let some = some_from_test (length text) (sym c.is_empty.ensures ∙ c.if-not-is_empty.true) in
     let is = c.begin_text.ensures in
-    TakesCalls-text g.W.Sink c.args.self.now c.begin_text.new.self (record { styling = is.styling; standing = is.standing; added = is.added }) text c.utf8.text some c.print_text.new.self c.print_text.ensures
+    TakesCalls-text g.W.Sink (length text) c.args.self.now c.begin_text.new.self (record { styling = is.styling; standing = is.standing; added = is.added }) text c.utf8.text some refl c.print_text.new.self c.print_text.ensures
 
 pub returns-else-not-is_empty : goal.returns-else-not-is_empty
 returns-else-not-is_empty g c =

@@ -1,12 +1,24 @@
--- Once more.
-use Rattle.std.proofs.Common.{ap, sym, ◌∙◌, add-one}
+-- So many at once, and the others one by one.
+use Rattle.std.proofs.Common.{◌≡◌, ◌+◌, ◌-◌, ap, ◌∙◌, arith}
 use Rattle.std.specs.Fn.{iterate}
 use Rattle.ansi_screen.specs.Print.{printed_again}
-use Rattle.ansi_screen.proofs.RepeatLemmas.{iterate-suc}
+use Rattle.ansi_screen.proofs.RepeatLemmas.{iterate-add}
 use Rattle.ansi_screen.proofs.display.Display.print_times.Goals as goal
+use Rattle.ansi_screen.proofs.display.Display.print_times.Goals.{then-fitting-gt0, else-fitting-gt0}
 
-pub loop-done-preserved : goal.loop-done-preserved
-loop-done-preserved c =
-    c.print_again.ensures ∙ (ap (printed_again c.args.c) c.loop-done.invariant
-    ∙ (sym (iterate-suc (printed_again c.args.c) c.loop-done._done c.args.self.now)
-    ∙ ap (λ n. iterate (printed_again c.args.c) n c.args.self.now) (sym (add-one c.loop-done._done))))
+pub returns : goal.returns
+returns c =
+    let d = c.args.self.now in
+    let again = printed_again c.args.c in
+    let count = c.args.count in
+    let fitting = c.min-fitting.result in
+    elim c.if-fitting-gt0.branch [
+      | then-fitting-gt0 w ↦
+          let all : fitting + (count - fitting) ≡ count = omega (arith, c.min-fitting.ensures) in
+          c.print_one_by_one.ensures
+          ∙ (ap (iterate again (count - fitting)) (w.self-is ∙ w.insert_times.ensures)
+          ∙ (iterate-add again fitting (count - fitting) d ∙ ap (λ k. iterate again k d) all))
+      | else-fitting-gt0 w ↦
+          let none : count - fitting ≡ count = omega (arith, w.if-fitting-gt0.false) in
+          c.print_one_by_one.ensures ∙ (ap (iterate again (count - fitting)) w.self-is ∙ ap (λ k. iterate again k d) none)
+    ]

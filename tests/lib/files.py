@@ -32,6 +32,8 @@ class Rows:
     def __init__(self, name, path, words, alone, run, differs):
         self.name, self.words, self.alone, self.run, self.differs = name, words, alone, run, differs
         self.takes_many = name != "ansi2screen"
+        # what it writes of a file in a folder, and what that is named after the file
+        self.what, self.extension = ("page", ".html") if name == "ansi2html" else ("text", ".txt")
         self.room = os.path.realpath(tempfile.mkdtemp())
         os.chmod(self.room, 0o755)
         # (for a user who may not look into this repository)
@@ -131,7 +133,7 @@ def file_cases(name, path, words, alone, run, differs):
         yield from kept_cases(rows)
         yield from taken_cases(rows)
         yield from memory_cases(rows)
-        if name == "ansi2html":
+        if rows.takes_many:
             yield from folder_cases(rows)
     finally:
         shutil.rmtree(rows.room)
@@ -474,17 +476,17 @@ def same_file_cases(rows):
 
 
 def pages_of(rows, *names, title=None):
-    """What is written of each of these files alone, by the name of its page; each page has the file's name as its title."""
+    """What is written of each of these files alone, by the name of its output; each page has the file's name as its title."""
     found = {}
     for name in names:
         last = os.path.basename(name)
-        words = [] if "--fragment" in rows.words else ["--title=" + (title or last)]
-        found[last + ".html"] = rows.ran(*words, "--", name).out
+        words = [] if rows.words == rows.alone else ["--title=" + (title or last)]
+        found[last + rows.extension] = rows.ran(*words, "--", name).out
     return found
 
 
 def folder_cases(rows):
-    """A folder that is written to: a page or a fragment of each file."""
+    """A folder that is written to: a page, a fragment or a text of each file."""
     before = rows.left()
     names = ["part0", "folder/part3", "./part1", "folder/a<b>&.log", "-dash"]
     made = ["folder/part3", "folder/a<b>&.log", "-dash"]
@@ -505,24 +507,24 @@ def folder_cases(rows):
         yield "%s makes a page of each file" % " ".join(words[-2:])[-30:], why or left_differs(rows, before, at, "-dash")
         shutil.rmtree(rows.at(at.split("/")[0]))
     os.mkdir(rows.at("pages"))
-    for old in ("part0.html", "other"):
+    for old in ("part0" + rows.extension, "other"):
         rows.put("pages/" + old, b"old\n")
     said = rows.said((b"missing", errno.ENOENT), (b"folder", errno.EISDIR))
     why = rows.differs(rows.ran("-o", "pages/", "missing", "part0", "folder", "--", "-dash"), status=1, err=said)
     wanted = {**pages_of(rows, "part0", "-dash"), "other": b"old\n"}
     yield "of files that can't be read there is no page, and others have theirs", why or pages_differ(rows, "pages", wanted)
-    rows.put("pages/missing.html", b"old\n")
+    rows.put("pages/missing" + rows.extension, b"old\n")
     why = rows.differs(rows.ran("-o", "pages/", "missing"), status=1, err=rows.said((b"missing", errno.ENOENT)))
-    yield "the page of one that is missing stays", why or pages_differ(rows, "pages", {**wanted, "missing.html": b"old\n"})
+    yield "the page of one that is missing stays", why or pages_differ(rows, "pages", {**wanted, "missing" + rows.extension: b"old\n"})
     shutil.rmtree(rows.at("pages"))
     why = rows.differs(rows.ran("-o", "./", "part0")) or pages_differ(rows, ".", pages_of(rows, "part0"), among=True)
     yield "a page beside its file", why
-    os.remove(rows.at("part0.html"))
-    if "--fragment" not in rows.words:
+    os.remove(rows.at("part0" + rows.extension))
+    if rows.words != rows.alone:
         why = rows.differs(rows.ran("-o", "pages/", "--title=T", "part0", "part1"))
         yield "a title for all", why or pages_differ(rows, "pages", pages_of(rows, "part0", "part1", title="T"))
         shutil.rmtree(rows.at("pages"))
-    if "--shown" not in rows.words:
+    if rows.name == "ansi2html" and "--shown" not in rows.words:
         numbered = {name + ".html": rows.ran("--lines", *([] if "--fragment" in rows.words else ["--title=" + name]), name).out for name in ("part0", "part1")}
         why = rows.differs(rows.ran("-o", "pages/", "--lines", "part0", "part1")) or pages_differ(rows, "pages", numbered)
         yield "--lines, a page a file", why
@@ -536,24 +538,25 @@ def folder_cases(rows):
 def refused_cases(rows):
     """Files that have no pages of their own in a folder, which is not made; and folders that can't be."""
     before = rows.left()
-    why = b"%s: a folder takes a page of each file that is named (see %s --help)\n" % (2 * (rows.name.encode(),))
+    why = ("%s: a folder takes a %s of each file that is named (see %s --help)\n" % (rows.name, rows.what, rows.name)).encode()
     yield "-o pages/ and no name is refused", rows.differs(rows.ran("-o", "pages/", given=PARTS[0]), status=2, err=why) or left_differs(rows, before)
     for names, shown in [(["-"], "-"), (["part0", "-"], "-"), ([".."], ".."), (["part0", "folder/.."], "folder/.."), ([""], "")]:
-        why = '%s: "%s": no page in a folder can be named after it (see %s --help)\n' % (rows.name, shown, rows.name)
+        why = '%s: "%s": no %s in a folder can be named after it (see %s --help)\n' % (rows.name, shown, rows.what, rows.name)
         why = rows.differs(rows.ran("-o", "pages/", *names, given=PARTS[0]), status=2, err=why.encode())
         yield "-o pages/ %s is refused" % " ".join(names), why or left_differs(rows, before)
     for names, shown in [(["part0", "folder/part0"], "part0"), (["part1", "part0", "./part0", "part1"], "part1"), (["part0", "part0/"], "part0")]:
-        why = '%s: "%s": two files of this name would be one page in the folder (see %s --help)\n' % (rows.name, shown, rows.name)
+        why = '%s: "%s": two files of this name would be one %s in the folder (see %s --help)\n' % (rows.name, shown, rows.what, rows.name)
         why = rows.differs(rows.ran("-o", "pages/", *names), status=2, err=why.encode())
         yield "-o pages/ %s is refused" % " ".join(names), why or left_differs(rows, before)
     for at, why in [("part0/", errno.EEXIST), ("part0/below/", errno.ENOTDIR), ("loop/", errno.EEXIST)]:
         said = rows.said((at.encode(), why))
         yield "-o %s can't be made" % at, rows.differs(rows.ran("-o", at, "part1"), status=1, err=said) or left_differs(rows, before)
-    why = rows.differs(rows.run([rows.path, "--stylesheet", "-o", rows.at("folder/")], b""), status=1, err=rows.said((rows.at("folder/").encode(), errno.EISDIR)))
-    yield "a stylesheet is no page", why
+    if rows.name == "ansi2html":
+        why = rows.differs(rows.run([rows.path, "--stylesheet", "-o", rows.at("folder/")], b""), status=1, err=rows.said((rows.at("folder/").encode(), errno.EISDIR)))
+        yield "a stylesheet is no page", why
     os.mkdir(rows.at("pages"), 0o777)
     os.chmod(rows.at("pages"), 0o555)
-    said = rows.said((b"pages/part0.html", errno.EACCES), (b"pages/part1.html", errno.EACCES))
+    said = rows.said(*((b"pages/%s%s" % (it, rows.extension.encode()), errno.EACCES) for it in (b"part0", b"part1")))
     yield "a folder that it may not write to", rows.differs(rows.ran("-o", "pages/", "part0", "part1", before=drop_rights), status=1, err=said)
     os.rmdir(rows.at("pages"))
 

@@ -94,7 +94,8 @@ PHRASES = {
     ],
     "man/ansi2screen.1": [
         STATUSES[0], STATUSES[3], "was said. {FAILED} the file", "shown. {MISUSED} an option", "to show sgr {hidden}", "a character that is broken is u+fffd", "--size 80x24",
-        "from {MIN_COLUMNS}x{MIN_ROWS} to {MAX_COLUMNS}x{MAX_ROWS}; {COLUMNS}x{ROWS} where none is given", "links (osc 8) and whether", "each read, of {PIECE} bytes at most",
+        "from {MIN_COLUMNS}x{MIN_ROWS} to {MAX_COLUMNS}x{MAX_ROWS}. where", "and else {COLUMNS}x{ROWS}.", 'columns="120" lines="40"', "links (osc 8) and whether",
+        "each read, of {PIECE} bytes at most", "looked at, {MOST_FRONT} bytes",
     ],
     "man/ansi2text.1": [
         *STATUSES, *OF_SHOWN, *CUT_OFF, "all other control characters from 00 to 1f", "del (7f) and the characters " + C1, "is broken becomes u+fffd", "each byte a0 to ff that belongs to no character",
@@ -110,11 +111,11 @@ PHRASES = {
 CONSTANTS = {
     "anstyle_parse/src/parser/command": ["MAX_OSC_RAW", "MAX_OSC_PARTS"], "anstyle_parse/src/params": ["MAX_PARAMS"], "anstyle_parse/src/parser/header": ["MAX_FIELD"],
     "event_pieces/src/event": ["MAX_INTERMEDIATES"], "html_pieces/src/state": ["MAX_LINK"], "html_pieces/src/feeding": ["CAPACITY", "MOST_TAKEN"],
-    "screen_html/src/table": ["MOST_KEPT"], "screen_draw/src/updates": ["PIECE"], "ansi2html/src/words": ["MOST_OF_A_TAG"], "ansi_html/src/block": ["LINES_A_BLOCK"],
+    "screen_html/src/table": ["MOST_KEPT"], "screen_draw/src/updates": ["PIECE"], "screen_text/src/recording": ["MOST_FRONT"], "ansi2html/src/words": ["MOST_OF_A_TAG"], "ansi_html/src/block": ["LINES_A_BLOCK"],
     "command_line/src/lib": ["FAILED", "MISUSED", "READER_GONE"], "ansi_screen/src/size": ["MIN_COLUMNS", "MAX_COLUMNS", "MIN_ROWS", "MAX_ROWS"],
     "screen_pieces/src/modes": ["RESERVED_MODES"], "ansi_screen_c/src/history": ["RESERVED_OPTIONS"], "ansi_html/src/spare": ["BYTE_EARNS", "FEED_COUNTS"],
 }  # fmt: skip
-PLAIN = ["PIECE", "MAX_COLUMNS", "MAX_ROWS"]  # which stand there with no commas
+PLAIN = ["PIECE", "MOST_FRONT", "MAX_COLUMNS", "MAX_ROWS"]  # which stand there with no commas
 
 
 def words_of(path, text):

@@ -1,10 +1,11 @@
 //! The words of the program: the size that its options name, and what it says of itself.
-ghost use Rattle.std.specs.Prelude.{◌≡◌, IfSome, map, option_copied, string_bytes};
-ghost use Rattle.ansi2screen.specs.Words.{asks_to_draw, asks_for_updates, file_of};
-ghost use Rattle.ansi_screen.specs.Size.{IsNamed, IsTaken};
+ghost use Rattle.std.specs.Prelude.{◌≡◌, IfOk, IfSome, map, option_copied, string_bytes};
+ghost use Rattle.ansi2screen.specs.Words.{asks_to_draw, asks_for_updates, file_of, IsNamed};
+ghost use Rattle.ansi_screen.specs.Size.{IsTaken};
 
 use ansi_screen::Size;
 use command_line::{OUTPUT, has_word};
+use screen_text::NoSize;
 
 /// The options.
 pub const OPTIONS: &[&str] = &[SIZE, DRAW, UPDATES, OUTPUT];
@@ -33,16 +34,21 @@ Writes what a terminal's screen shows at the end of a file, as text. Input is UT
 With no FILE, or for -, standard input is read. A word after -- names a file,
 whatever it begins with. The size may also be the next word, as in --size 80x24.
 
-  --size=COLUMNSxROWS     the screen's size, from 2x1 to 1000x1000 (80x24)
+The line that script writes at the front of a recording is left out, and where no
+size is given the screen has the one that this line says, and else 80x24.
+
+  --size=COLUMNSxROWS     the screen's size, from 2x1 to 1000x1000
   --draw                  write the sequences that make a terminal show it instead
-  --updates               write these as input comes, of what differs alone
+  --updates               write these as input comes, of what differs alone; where a
+                          size is given at once, with all that comes, and else after
+                          the first line
   -o FILE, --output=FILE  write to FILE, in its place once all went well: it is
                           whole or as it was, and may be the one that is read
   -h, --help              say this
   --version               say which version it is
 
 Example, the last screen of a recording:
-  ansi2screen --size=120x40 recording
+  ansi2screen recording
 ";
 
 /// Whether the words ask for the bytes that draw the screen.
@@ -59,14 +65,17 @@ pub fn asks_for_updates(words: &[String]) -> bool
     has_word(words, UPDATES)
 }
 
-/// The size that this text says; with no text 80 columns and 24 rows. `None` for a text that says none.
-pub fn named_size(text: Option<&str>) -> Option<Size>
+/// The size that this text says; with no text none.
+pub fn named_size(text: Option<&str>) -> Result<Option<Size>, NoSize>
     ensures named { IsNamed (option_copied text.entry) result }
-    ensures taken { IfSome result IsTaken }
+    ensures taken { IfOk result (λ size. IfSome size IsTaken) }
 {
     match text {
-        None => Some(Size::of_a_terminal()),
-        Some(text) => Size::parse(text),
+        None => Ok(None),
+        Some(text) => match Size::parse(text) {
+            None => Err(NoSize),
+            Some(size) => Ok(Some(size)),
+        },
     }
 }
 

@@ -5,16 +5,19 @@
 mod streams;
 mod words;
 
+ghost use Rattle.std.specs.Prelude.{IfSome};
+ghost use Rattle.screen_text.specs.Recording.{CanBeShown};
+
 use command_line::{
     OUTPUT, Target, answered, asked_of, buffered, failed, given_line, have_failed, inputs,
-    value_of, wrong_size,
+    is_folder, outputs_in, value_of, wrong_size,
 };
 use each_source::write_each;
 use screen_safe::SafeRows;
-use screen_text::{SHOWN, ShownWriter, TextRows, screen_size};
+use screen_text::{SHOWN, ShownSize, ShownWriter, TextRows, screen_size};
 use std::process::ExitCode;
 use streams::{MakingSafe, Showing, Stripping, StrippingLines};
-use words::{HELP, OPTIONS, asks_for_line_feeds, asks_for_safe};
+use words::{HELP, OPTIONS, TEXTS, asks_for_line_feeds, asks_for_safe};
 
 /// The name at the front of what the program says of failures.
 const PROGRAM: &str = "ansi2text";
@@ -31,25 +34,66 @@ fn main(rt: HostRuntime) -> ExitCode {
     let Ok(size) = screen_size(value_of(options, SHOWN)) else {
         return wrong_size(&rt, PROGRAM);
     };
-    let safe = asks_for_safe(options);
+    let how = How {
+        size,
+        safe: asks_for_safe(options),
+        line_feeds: asks_for_line_feeds(options),
+    };
+    let output = value_of(options, OUTPUT);
     let names = line.files.as_slice();
+    match output.filter(|output| is_folder(output)) {
+        Some(folder) => texts(rt, names, folder, how),
+        None => written(rt, names, output, how),
+    }
+}
+
+/// How the text of files is written.
+#[derive(Debug, Clone, Copy)]
+struct How {
+    /// What a screen of this size showed of them.
+    size: Option<ShownSize>,
+    safe: bool,
+    /// Lines end with a line feed alone.
+    line_feeds: bool,
+}
+
+/// Writes the text of each of these files into the folder, which is made where it is not there.
+fn texts(rt: HostRuntime, names: &[String], folder: &str, how: How) -> ExitCode
+    requires { IfSome how.size CanBeShown }
+{
+    let paths = match outputs_in(&rt, PROGRAM, TEXTS, folder, names) {
+        Ok(paths) => paths,
+        Err(status) => return status,
+    };
+    let mut status = ExitCode::SUCCESS;
+    for (name, path) in names.chunks(1).zip(paths.iter()) {
+        let ended = written(rt, name, Some(path.as_str()), how);
+        if ended != ExitCode::SUCCESS {
+            status = ended;
+        }
+    }
+    status
+}
+
+/// Writes the text of these files, one after another.
+fn written(rt: HostRuntime, names: &[String], output: Option<&str>, how: How) -> ExitCode
+    requires { IfSome how.size CanBeShown }
+{
     let Ok(mut inputs) = inputs(rt, PROGRAM, names) else {
         return failed(&rt, PROGRAM, "out of memory");
     };
-    let (target, output) = match Target::open(rt, PROGRAM, value_of(options, OUTPUT), names) {
+    let (target, output) = match Target::open(rt, PROGRAM, output, names) {
         Ok(opened) => opened,
         Err(status) => return status,
     };
     let (readers, output) = (inputs.as_mut_slice(), buffered(output));
-    let ran = match size {
-        None if safe => write_each(&MakingSafe, b"", readers, output, b""),
-        None if asks_for_line_feeds(options) => {
-            write_each(&StrippingLines, b"", readers, output, b"")
-        }
+    let ran = match how.size {
+        None if how.safe => write_each(&MakingSafe, b"", readers, output, b""),
+        None if how.line_feeds => write_each(&StrippingLines, b"", readers, output, b""),
         None => write_each(&Stripping, b"", readers, output, b""),
         Some(size) => {
             let showing = Showing::new(rt.alloc(), size);
-            if safe {
+            if how.safe {
                 write_each::<ShownWriter<SafeRows<_>>, _, _, _>(&showing, b"", readers, output, b"")
             } else {
                 write_each::<ShownWriter<TextRows<_>>, _, _, _>(&showing, b"", readers, output, b"")

@@ -2,7 +2,7 @@
 ghost use Rattle.std.specs.Prelude.{◌≡◌, map, string_bytes};
 ghost use Rattle.ansi2text.specs.Words.{asks_for_safe, asks_for_line_feeds};
 
-use command_line::{OUTPUT, has_word};
+use command_line::{OUTPUT, Outputs, has_word};
 use screen_text::SHOWN;
 
 /// The options.
@@ -13,6 +13,12 @@ const SAFE: &str = "--safe";
 
 /// What asks for lines that end with a line feed alone.
 const LINE_FEEDS: &str = "--lf";
+
+/// What it writes of files.
+pub const TEXTS: Outputs<'static> = Outputs {
+    word: "text",
+    extension: ".txt",
+};
 
 /// What `--help` says.
 pub const HELP: &str = "\
@@ -38,14 +44,18 @@ name files, whatever they begin with.
   --shown=COLUMNSxROWS    the same of this size, from 2x1 to 1000x1000; it may be
                           the next word, as in --shown 120x40
   -o FILE, --output=FILE  write to FILE, in its place once all went well: it is
-                          whole or as it was, and may be one that is read
+                          whole or as it was, and may be one that is read. Where
+                          its name ends in /, as in -o texts/, it is a folder, made
+                          if it is not there, in which each file has a text of its
+                          own: a.log the text texts/a.log.txt
   -h, --help              say this
   --version               say which version it is
 
-Examples, a log as text, the text of a build as it runs, the lines of a recording,
-what a terminal showed, and a stranger's text to review:
+Examples, a log as text, the text of a build as it runs, that of each of many logs,
+the lines of a recording, what a terminal showed, and a stranger's text to review:
   ansi2text log > log.txt
   make 2>&1 | ansi2text -o build.log
+  ansi2text -o texts/ *.log
   ansi2text --lf recording > lines.txt
   ansi2text --shown recording
   ansi2text --safe log

@@ -4,4 +4,5 @@ pub mod Options
 pub mod Line
 pub mod Inputs
 pub mod Outputs
+pub mod Folder
 pub mod Words

@@ -8,6 +8,7 @@ ghost use Rattle.anstyle_parse.specs.Io.Devices.{writer_of, writer_failed};
 ghost use Rattle.command_line.specs.Words.{message_of, is_broken_pipe, status_of};
 
 mod beginning;
+mod folder;
 mod input_files;
 mod line;
 mod options;
@@ -15,6 +16,7 @@ mod output_file;
 mod standard;
 
 use anstyle_parse::io::{Buffer, Fault, FromWrite};
+pub use folder::{Outputs, file_name, is_folder, outputs_in};
 pub use input_files::{Input, file_failed, have_failed, inputs};
 pub use line::{Line, Place, given_line, line_of};
 pub use options::{OUTPUT, Request, VERSION, answered, asked_of, given_words, has_word, value_of};

@@ -1,2 +1,4 @@
 pub mod Each
 pub mod Ended
+pub mod Begun
+pub mod BegunParts

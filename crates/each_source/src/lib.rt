@@ -2,6 +2,7 @@
 //! written of all is the join of what is written of each.
 #![tactic(auto)]
 
+mod begun;
 mod one_source;
 
 ghost use Rattle.std.specs.Prelude.{◌≡◌, ◌≤◌, ◌++◌, ℕ, Bool, List, None, OnOk, IfOk, IfErr, IsTrue, length};
@@ -9,6 +10,7 @@ ghost use Rattle.anstyle_parse.specs.Io.Output.{fault_in, Adds};
 ghost use Rattle.each_source.specs.Each.{Given, BeginsWith, WritesOne, AddsEach, WritesEach, IsFrontRead, stopped_by};
 
 use anstyle_parse::io::{Fault, FromRead, Output, Sink, Source, WritingPerformer};
+pub use begun::{Begun, read_first_line};
 pub use one_source::MOST_FRONT;
 use one_source::{Ended, PIECE, read_front, read_to};
 use std::io::Read;

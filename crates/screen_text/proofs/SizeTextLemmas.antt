@@ -16,7 +16,7 @@ use Rattle.ansi_screen.specs.declared.size.Size.{Size}
 use Rattle.ansi_screen.specs.Display.{most_columns, most_rows}
 use Rattle.ansi_screen.specs.Size.{size_if_taken, IsNumber, IsTaken}
 use Rattle.screen_text.specs.declared.recording.ShownSize.TheVariants.{Recorded}
-use Rattle.screen_text.specs.Recording.{most_front, first_line, after_text, is_digit_of, number_from, after_number, size_of_all, size_by_rows, size_by_columns, size_of_end, size_of_line, of_a_log, size_for, size_text, SaysSize, is_of_line, IsAtLineEnd}
+use Rattle.screen_text.specs.Recording.{most_front, first_line, recorded_size, after_line, given_after, without_line, after_text, is_digit_of, number_from, after_number, size_of_all, size_by_rows, size_by_columns, size_of_end, size_of_line, of_a_log, size_for, size_text, SaysSize, is_of_line, IsAtLineEnd}
 
 -- a digit, and its value
 record IsDigit (c : ℕ) : Type 0 where
@@ -352,17 +352,45 @@ first-is (b ∷ line) rest zero are ends fits = absurd (omega (arith, fits))
 first-is (b ∷ line) rest (suc n) are ends fits =
     ap₂ (λ (t : Bool) (l : List ℕ). if t then [] else b ∷ l) (not-true (b == 0x0A) are.0) (first-is line rest n are.1 ends (omega (arith, fits)))
 
+-- what the line says the stream says
+recorded-said : (line rest : List ℕ) (size : Size) → EachIs is_of_line line → IsAtLineEnd rest → length line ≤ most_front → SaysSize line size → IsTaken size
+    → recorded_size (line ++ rest) ≡ Some size
+recorded-said line rest size are ends fits says is =
+    ap size_of_line (first-is line rest most_front are ends fits ∙ says.whole)
+    ∙ line-whole says.words says.columns says.rows size says.columns_are says.rows_are is
+
+recorded-unsaid : (line rest : List ℕ) → EachIs is_of_line line → IsAtLineEnd rest → length line ≤ most_front → ((size : Size) → SaysSize line size → IsTaken size → ⊥)
+    → recorded_size (line ++ rest) ≡ None
+recorded-unsaid line rest are ends fits none =
+    ap size_of_line (first-is line rest most_front are ends fits) ∙ by (size_of_line line) refl
+  where
+    by : (o : Option Size) → size_of_line line ≡ o → o ≡ None
+    by None said = refl
+    by (Some size) said = let found = line-said line size said in absurd (none size found.0 found.1)
+
 pub size-said : (line rest : List ℕ) (size : Size) → EachIs is_of_line line → IsAtLineEnd rest → length line ≤ most_front → SaysSize line size → IsTaken size
     → size_for Recorded (line ++ rest) ≡ size
-size-said line rest size are ends fits says is =
-    ap (λ (l : List ℕ). unwrap_or (size_of_line l) of_a_log) (first-is line rest most_front are ends fits ∙ says.whole)
-    ∙ ap (λ (o : Option Size). unwrap_or o of_a_log) (line-whole says.words says.columns says.rows size says.columns_are says.rows_are is)
+size-said line rest size are ends fits says is = ap (λ (o : Option Size). unwrap_or o of_a_log) (recorded-said line rest size are ends fits says is)
 
 pub size-unsaid : (line rest : List ℕ) → EachIs is_of_line line → IsAtLineEnd rest → length line ≤ most_front → ((size : Size) → SaysSize line size → IsTaken size → ⊥)
     → size_for Recorded (line ++ rest) ≡ of_a_log
-size-unsaid line rest are ends fits none =
-    ap (λ (l : List ℕ). unwrap_or (size_of_line l) of_a_log) (first-is line rest most_front are ends fits) ∙ by (size_of_line line) refl
-  where
-    by : (o : Option Size) → size_of_line line ≡ o → unwrap_or o of_a_log ≡ of_a_log
-    by None said = refl
-    by (Some size) said = let found = line-said line size said in absurd (none size found.0 found.1)
+size-unsaid line rest are ends fits none = ap (λ (o : Option Size). unwrap_or o of_a_log) (recorded-unsaid line rest are ends fits none)
+
+-- What comes after a line.
+after-line-is : (line rest : List ℕ) (n : ℕ) → EachIs is_of_line line → length line < n → after_line n (line ++ 0x0A ∷ rest) ≡ rest
+after-line-is [] rest zero are fits = absurd (omega (arith, fits))
+after-line-is [] rest (suc n) are fits = refl
+after-line-is (b ∷ line) rest zero are fits = absurd (omega (arith, fits))
+after-line-is (b ∷ line) rest (suc n) are fits =
+    ap (λ (t : Bool). if t then line ++ 0x0A ∷ rest else after_line n (line ++ 0x0A ∷ rest)) (not-true (b == 0x0A) are.0)
+    ∙ after-line-is line rest n are.1 (omega (arith, fits))
+
+pub line-out : (line rest : List ℕ) (size : Size) → EachIs is_of_line line → length line < most_front → SaysSize line size → IsTaken size
+    → without_line (line ++ 0x0A ∷ rest) ≡ rest
+line-out line rest size are fits says is =
+    ap (λ (o : Option Size). given_after o (line ++ 0x0A ∷ rest)) (recorded-said line (0x0A ∷ rest) size are refl (omega (arith, fits)) says is)
+    ∙ after-line-is line rest most_front are fits
+
+pub line-kept : (line rest : List ℕ) → EachIs is_of_line line → IsAtLineEnd rest → length line ≤ most_front → ((size : Size) → SaysSize line size → IsTaken size → ⊥)
+    → without_line (line ++ rest) ≡ line ++ rest
+line-kept line rest are ends fits none = ap (λ (o : Option Size). given_after o (line ++ rest)) (recorded-unsaid line rest are ends fits none)

@@ -2,7 +2,7 @@
 --
 -- Source: util-linux, term-utils/script.c, `log_start`: the first line ends with ` COLUMNS="%d" LINES="%d"]` where
 -- script stands on a terminal, after words in the user's language, and else it says no size.
-use Rattle.std.specs.Prelude.{◌≡◌, ℕ, ◌+◌, ◌-◌, ◌*◌, ◌==◌, ◌&&◌, ◌||◌, not, nat_le, nat_eq, Bool, true, List, [], ◌∷◌, ◌++◌, length, take, drop, codes, Option, None, Some, ⊤, if◌then◌else◌}
+use Rattle.std.specs.Prelude.{◌≡◌, ℕ, zero, suc, ◌+◌, ◌-◌, ◌*◌, ◌==◌, ◌&&◌, ◌||◌, not, nat_le, nat_eq, Bool, true, List, [], ◌∷◌, ◌++◌, length, take, drop, codes, Option, None, Some, ⊤, if◌then◌else◌}
 use Rattle.std.specs.List.{starts_with, list_any}
 use Rattle.std.specs.Option.{option_or, unwrap_or}
 use Rattle.ansi_screen.specs.declared.size.Size.{Size}
@@ -66,6 +66,21 @@ size_of_line (b ∷ bytes) = option_or (size_of_end (b ∷ bytes)) (size_of_line
 -- the size that a stream says in its first line
 abbrev pub recorded_size : List ℕ → Option Size
 recorded_size bytes = size_of_line (first_line (take most_front bytes))
+
+-- What comes after the first line and its line feed; of a longer line what comes after so many bytes.
+abbrev pub after_line : (most : ℕ) → List ℕ → List ℕ
+after_line zero bytes = bytes
+after_line (suc most) [] = []
+after_line (suc most) (b ∷ bytes) = if b == 0x0A then bytes else after_line most bytes
+
+-- What the terminal of a stream was given: where the first line says its size, which script(1) wrote, what comes after
+-- that line, and else all.
+abbrev pub given_after : Option Size → List ℕ → List ℕ
+given_after None bytes = bytes
+given_after (Some size) bytes = after_line most_front bytes
+
+abbrev pub without_line : List ℕ → List ℕ
+without_line bytes = given_after (recorded_size bytes) bytes
 
 -- 1,000 columns and 100 rows, of what does not say on what terminal it was: most logs never were on one
 abbrev pub of_a_log : Size

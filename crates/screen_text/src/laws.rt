@@ -1,5 +1,5 @@
 //! Laws of what a screen showed. Each is the contract of a function that does nothing.
-ghost use Rattle.std.specs.Prelude.{◌≡◌, ◌≢◌, ◌≤◌, ◌+◌, ◌-◌, ◌*◌, ℕ, List, [], ◌∷◌, ◌++◌, length, encode_utf8};
+ghost use Rattle.std.specs.Prelude.{◌≡◌, ◌≢◌, ◌<◌, ◌≤◌, ◌+◌, ◌-◌, ◌*◌, ℕ, List, [], ◌∷◌, ◌++◌, length, encode_utf8};
 ghost use Rattle.std.specs.List.{AllByRecursion, flat_map};
 ghost use Rattle.anstyle_parse.specs.Stream.Call.{Call};
 ghost use Rattle.anstyle_parse.specs.Stream.Calls.{AreCalls};
@@ -13,7 +13,7 @@ ghost use Rattle.ansi_screen.specs.Text.{text_of};
 ghost use Rattle.ansi_screen.specs.declared.size.Size.{Size};
 ghost use Rattle.ansi_screen.specs.Size.{IsTaken};
 ghost use Rattle.screen_text.specs.declared.recording.ShownSize.TheVariants.{Recorded};
-ghost use Rattle.screen_text.specs.Recording.{most_front, of_a_log, size_for, SaysSize, is_of_line, IsAtLineEnd};
+ghost use Rattle.screen_text.specs.Recording.{most_front, of_a_log, size_for, without_line, SaysSize, is_of_line, IsAtLineEnd};
 ghost use Rattle.screen_text.specs.Shown.{given_all, shown_text};
 ghost use Rattle.screen_text.specs.Laws.{most_cell_bytes, erase_line, IsEnded, IsPlain, ArePlain, LastIsNotEmpty, HasEmptyEnd, HasNoBlankEnd, lines_bytes, recorded_bytes, empty_lines};
 
@@ -114,4 +114,13 @@ pub fn recorded_size()
         → length line ≤ most_front → SaysSize line size → IsTaken size → size_for Recorded (line ++ rest) ≡ size }
     ensures unsaid { (line rest : List ℕ) → EachIs is_of_line line → IsAtLineEnd rest → length line ≤ most_front
         → ((size : Size) → SaysSize line size → IsTaken size → ⊥) → size_for Recorded (line ++ rest) ≡ of_a_log }
+{}
+
+/// What the terminal of a recording was given is the recording without that line, which script(1) writes itself; of any
+/// other stream it is all.
+pub fn without_line()
+    ensures left_out { (line rest : List ℕ) (size : Size) → EachIs is_of_line line → length line < most_front
+        → SaysSize line size → IsTaken size → without_line (line ++ 0x0A ∷ rest) ≡ rest }
+    ensures kept { (line rest : List ℕ) → EachIs is_of_line line → IsAtLineEnd rest → length line ≤ most_front
+        → ((size : Size) → SaysSize line size → IsTaken size → ⊥) → without_line (line ++ rest) ≡ line ++ rest }
 {}

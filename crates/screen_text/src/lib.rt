@@ -15,7 +15,7 @@ use ansi_screen::Scrollable;
 use anstyle_parse::io::{Fault, Output, Sink, Source, write_calls_by};
 pub use option::{NoSize, SHOWN, screen_size};
 pub use performer::ShownWriter;
-pub use recording::ShownSize;
+pub use recording::{ShownSize, recorded};
 pub use rows::{TextRows, WriteRows};
 
 /// Writes what a screen showed of all bytes that the reader gives, in UTF-8: each row of the main screen as it scrolls

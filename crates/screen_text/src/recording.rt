@@ -2,7 +2,8 @@
 ghost use Rattle.std.specs.Prelude.{◌≡◌, ◌≤◌, ◌++◌, ◌⊎◌, [], true, ℕ, List, codes, length, take, IsTrue, IfOk, IfSome};
 ghost use Rattle.std.specs.Option.{option_map};
 ghost use Rattle.ansi_screen.specs.Size.{IsTaken};
-ghost use Rattle.screen_text.specs.Recording.{first_line, after_text, number_from, after_number, size_of_all, size_by_rows, size_of_end, size_of_line, recorded_size, of_a_log, is_digit_of, size_for, screen_for, is_decided, CanBeShown};
+ghost use Rattle.screen_text.specs.declared.recording.ShownSize.TheVariants.{Recorded};
+ghost use Rattle.screen_text.specs.Recording.{first_line, after_text, number_from, after_number, size_of_all, size_by_rows, size_of_end, size_of_line, recorded_size, most_front, after_line, without_line, of_a_log, is_digit_of, size_for, screen_for, is_decided, CanBeShown};
 
 use ansi_screen::{MAX_COLUMNS, Scrollable, Size};
 use std::alloc::{AllocError, Global};
@@ -63,6 +64,35 @@ impl ShownSize {
         let size = self.of(front);
         Scrollable::new(alloc, size.columns, size.rows)
     }
+}
+
+/// The size that a stream says which begins with these bytes, and goes on where they decide it; and what of them its
+/// terminal was given: what comes after the line that says the size, which script(1) wrote, and else all.
+pub fn recorded(front: &[u8]) -> (Option<Size>, &[u8])
+    ensures size { (rest : List ℕ) → (is_decided Recorded front.now ≡ true) ⊎ (rest ≡ [])
+        → recorded_size (front.now ++ rest) ≡ result.0 }
+    ensures given { (rest : List ℕ) → (is_decided Recorded front.now ≡ true) ⊎ (rest ≡ [])
+        → without_line (front.now ++ rest) ≡ result.1.now ++ rest }
+    ensures taken { IfSome result.0 IsTaken }
+{
+    match recorded_size(front) {
+        None => (None, front),
+        Some(size) => (Some(size), after_line(front)),
+    }
+}
+
+/// What comes after the first line.
+fn after_line(bytes: &[u8]) -> &[u8]
+    ensures { result.now ≡ after_line most_front bytes.now }
+{
+    let most = bytes.len().min(MOST_FRONT);
+    for i in 0..most {
+        let byte = bytes[i];
+        if byte == b'\n' {
+            return &bytes[i + 1..];
+        }
+    }
+    &bytes[most..]
 }
 
 /// 1,000 columns and 100 rows: most logs never were on a terminal, and no line is to be cut.

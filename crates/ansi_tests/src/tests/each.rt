@@ -6,12 +6,12 @@ ghost use Rattle.ansi_tests.specs.Ending.{no_text};
 
 use super::{assert_bytes, assert_count};
 use ansi_strip::Stripper;
-use anstyle_parse::io::{Buffer, CallWriter, Fault, FromRead, FromWrite, Output, Sink};
+use anstyle_parse::io::{Buffer, CallWriter, Fault, FromRead, FromWrite, Output, Sink, Source};
 use command_line::{
-    Destination, Input, Line, OUTPUT, Place, Target, file_failed, given_line, have_failed, inputs,
-    line_of,
+    Destination, Input, Line, OUTPUT, Outputs, Place, Target, file_failed, file_name, given_line,
+    have_failed, inputs, is_folder, line_of, outputs_in,
 };
-use each_source::{Begin, MOST_FRONT, Stopped, Stream, write_each};
+use each_source::{Begin, Begun, MOST_FRONT, Stopped, Stream, read_first_line, write_each};
 use std::alloc::Global;
 use std::io::{Error, ErrorKind};
 use std::process::{Abort, ExitCode};
@@ -271,6 +271,31 @@ fn sizes_and_names_right_behind(rt: HostRuntime) -> Result<(), Fail> {
     assert_words(&rt, line.options.as_slice(), &options);
     assert_words(&rt, line.files.as_slice(), &["9x", "8x8", "-o"]);
     Ok(())
+}
+
+// A source whose first line was read gives it once more, and then what comes after it.
+#[test]
+fn a_first_line_that_was_read(rt: HostRuntime) {
+    let mut front = [0; MOST_FRONT];
+    let mut reader = FromRead::new(b"ab\nc".as_slice());
+    let count = read_first_line(&mut reader, &mut front);
+    assert_bytes(&rt, &front[..count], b"ab\nc");
+    let mut begun = Begun::new(&front[..2], reader);
+    let mut piece = [0; 3];
+    assert_eq!(rt; begun.read(&mut piece), Some(2));
+    assert_bytes(&rt, &piece[..2], b"ab");
+    assert_eq!(rt; begun.into_inner().read(&mut piece), Some(0));
+}
+
+/// What programs share to write to a folder, which no test runs here.
+pub fn names_of_folders(rt: &HostRuntime, names: &[String]) -> Result<Vec<String>, ExitCode> {
+    let outputs = Outputs {
+        word: "text",
+        extension: ".txt",
+    };
+    let name = if is_folder("a/") { "a/" } else { "" };
+    let folder = file_name(name).unwrap_or(name);
+    outputs_in(rt, "", outputs, folder, names)
 }
 
 /// What programs share to write a file, which no test runs here.

@@ -10,8 +10,11 @@ use anstyle_parse::Perform;
 use anstyle_parse::io::{FromRead, FromWrite, Output, write_calls_by};
 use screen_text::laws::{
     bound, clean, lines, plain_screen, plain_text, recorded_size, returned, rewritten, shown_twice,
+    without_line,
 };
-use screen_text::{NoSize, SHOWN, ShownSize, ShownWriter, TextRows, screen_size, write_shown};
+use screen_text::{
+    NoSize, SHOWN, ShownSize, ShownWriter, TextRows, recorded, screen_size, write_shown,
+};
 use std::alloc::{AllocError, Global};
 use std::process::Abort;
 use std::test::Fail;
@@ -221,6 +224,7 @@ fn laws(_rt: HostRuntime) {
     rewritten();
     bound();
     recorded_size();
+    without_line();
 }
 
 // By hand: what came before counts as written.
@@ -295,6 +299,26 @@ fn recorded_sizes(rt: HostRuntime) {
     assert_size(&rt, ShownSize::Recorded.of(b"a\n"), (1000, 100));
     assert_same(&rt, &ShownSize::Fixed(SIZE).of(b"a\n"), &SIZE);
     assert_decided(&rt, ShownSize::Fixed(SIZE), b"", true);
+}
+
+/// A stream that begins so says this size, and these bytes of it are its terminal's.
+fn assert_recorded(rt: &impl Abort, front: &[u8], wanted: (Option<Size>, &[u8])) {
+    assert_same(rt, &recorded(front), &wanted);
+}
+
+#[test]
+fn recordings_without_their_first_lines(rt: HostRuntime) {
+    assert_recorded(&rt, SCRIPT, (Some(SIZE), b""));
+    let size = Size {
+        columns: 9,
+        rows: 2,
+    };
+    assert_recorded(
+        &rt,
+        b"[ COLUMNS=\"9\" LINES=\"2\"]\na\nb",
+        (Some(size), b"a\nb"),
+    );
+    assert_recorded(&rt, b"a\nb", (None, b"a\nb"));
 }
 
 /// How far the only row of a screen is written, and how much of it is used.

@@ -2,4 +2,3 @@ pub mod Words
 pub mod Page
 pub mod Streams
 pub mod Parts
-pub mod Folder

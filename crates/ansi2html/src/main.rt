@@ -2,7 +2,6 @@
 //! whole page, or a fragment.
 #![tactic(auto)]
 
-mod folder;
 mod form;
 mod parts;
 mod streams;
@@ -13,22 +12,20 @@ ghost use Rattle.screen_text.specs.Recording.{CanBeShown};
 
 use ansi_html::{Scheme, Styling};
 use command_line::{
-    OUTPUT, Target, answered, asked_of, buffered, failed, file_failed, given_line, have_failed,
-    inputs, misused, value_of, wrong_size,
+    OUTPUT, Target, answered, asked_of, buffered, failed, file_name, given_line, have_failed,
+    inputs, is_folder, misused, outputs_in, value_of, wrong_size,
 };
 use each_source::{Stopped, write_each};
-use folder::{Unpaged, first_twice, is_folder, page_names, page_path};
-use form::{Form, Said, write_stylesheet};
+use form::{Form, Said, TITLE, write_stylesheet};
 use parts::{Frame, one_has_failed, parts, write_parts};
 use screen_html::{BlockRows, HtmlRows};
 use screen_text::{SHOWN, ShownSize, ShownWriter, screen_size};
-use std::fs;
 use std::process::ExitCode;
 use streams::{Blocking, BlockingUrls, Converting, ConvertingUrls, Lining, LiningUrls, Showing};
 use words::{
-    HELP, NO_FILES, NO_LANGUAGE, NO_NAMES, NOT_OF_A_PAGE, NOT_SHOWN, ONE_FILE, OPTIONS, TWICE,
-    UNNAMED, URLS_NOT_SHOWN, asks_for_lines, asks_for_stylesheet, asks_for_urls, asks_to_scroll,
-    form, language, says_of_a_page, scheme, stylesheet_address, styling, title, title_or,
+    HELP, NO_FILES, NO_LANGUAGE, NOT_OF_A_PAGE, NOT_SHOWN, ONE_FILE, OPTIONS, PAGES,
+    URLS_NOT_SHOWN, asks_for_lines, asks_for_stylesheet, asks_for_urls, asks_to_scroll, form,
+    language, says_of_a_page, scheme, stylesheet_address, styling, title, title_or,
 };
 
 /// The name at the front of what the program says of failures.
@@ -120,32 +117,18 @@ fn pages(
 ) -> ExitCode
     requires { IfSome how.size CanBeShown }
 {
-    if names.is_empty() {
-        return misused(&rt, NO_NAMES);
-    }
-    let pages = match page_names(rt.alloc(), names) {
-        Ok(pages) => pages,
-        Err(Unpaged::Unnamed(name)) => return refused(&rt, name, UNNAMED),
-        Err(Unpaged::NoMemory) => return failed(&rt, PROGRAM, "out of memory"),
+    let paths = match outputs_in(&rt, PROGRAM, PAGES, folder, names) {
+        Ok(paths) => paths,
+        Err(status) => return status,
     };
-    if let Some(page) = first_twice(pages.as_slice()) {
-        return refused(&rt, page, TWICE);
-    }
-    if let Err(error) = fs::create_dir_all(&rt, folder) {
-        file_failed(&rt, PROGRAM, folder, error);
-        return ExitCode::FAILURE;
-    }
     let mut status = ExitCode::SUCCESS;
-    for (name, page) in names.chunks(1).zip(pages.iter()) {
-        let Ok(path) = page_path(rt.alloc(), folder, page) else {
-            return failed(&rt, PROGRAM, "out of memory");
-        };
+    for (files, path) in names.chunks(1).zip(paths.iter()) {
         let said = Said {
-            title: title_or(options, page),
+            title: title_or(options, page_name(files)),
             ..how.frame.said
         };
         let frame = Frame { said, ..how.frame };
-        let ended = written(rt, name, Some(path.as_str()), How { frame, ..how });
+        let ended = written(rt, files, Some(path.as_str()), How { frame, ..how });
         if ended != ExitCode::SUCCESS {
             status = ended;
         }
@@ -153,11 +136,11 @@ fn pages(
     status
 }
 
-/// Says what is wrong with the name of a file, on standard error, and answers status 2.
-fn refused(rt: &HostRuntime, name: &str, what: &str) -> ExitCode {
-    match format!(in rt.alloc(); "{PROGRAM}: {name:?}: {what} (see {PROGRAM} --help)") {
-        Ok(text) => misused(rt, text.as_str()),
-        Err(_) => failed(rt, PROGRAM, "out of memory"),
+/// The title of the page of a file, where none is given: the last part of its name.
+fn page_name(files: &[String]) -> &str {
+    match files {
+        [file] => file_name(file.as_str()).unwrap_or(TITLE),
+        _ => TITLE,
     }
 }
 

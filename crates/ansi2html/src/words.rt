@@ -6,7 +6,7 @@ ghost use Rattle.ansi2html.specs.Words.{form_after, form_of, is_of_a_page, says_
 
 use crate::form::{Form, LANGUAGE, TITLE};
 use ansi_html::{Scheme, Styling};
-use command_line::{OUTPUT, has_word, value_of};
+use command_line::{OUTPUT, Outputs, has_word, value_of};
 use screen_text::SHOWN;
 
 /// The options: `page` is the word of earlier versions.
@@ -41,15 +41,11 @@ const IN_LANGUAGE: &str = "--lang=";
 /// The greatest length of the tag of a language.
 const MOST_OF_A_TAG: usize = 64;
 
-/// What is said of a name that no page can be named after, as of standard input.
-pub const UNNAMED: &str = "no page in a folder can be named after it";
-
-/// What is said where no file is named, of which a folder would have a page.
-pub const NO_NAMES: &str =
-    "ansi2html: a folder takes a page of each file that is named (see ansi2html --help)";
-
-/// What is said of a name that more than one file has.
-pub const TWICE: &str = "two files of this name would be one page in the folder";
+/// What it writes of files.
+pub const PAGES: Outputs<'static> = Outputs {
+    word: "page",
+    extension: ".html",
+};
 
 /// What is said of a language that is no tag.
 pub const NO_LANGUAGE: &str =

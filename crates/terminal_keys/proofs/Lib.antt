@@ -1,0 +1,5 @@
+pub mod SequenceLemmas
+pub mod ModifierLemmas
+pub mod CodeLemmas
+pub mod DistinctLemmas
+pub mod PasteLemmas

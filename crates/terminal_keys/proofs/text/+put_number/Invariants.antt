@@ -1,0 +1,5 @@
+-- A digit fewer is left.
+use Rattle.terminal_keys.proofs.text.+put_number.Given as goal
+
+abbrev pub decreases-put_number : goal.decreases-put_number
+decreases-put_number g l = l.number

@@ -1,0 +1,9 @@
+pub mod Modes
+pub mod Keys
+pub mod Tables
+pub mod Text
+pub mod Legacy
+pub mod Enhanced
+pub mod Paste
+pub mod Mouse
+pub mod Laws

@@ -1,0 +1,18 @@
+//! Keys, the mouse, a paste and the focus as the bytes that a terminal's program reads, by what it asked for.
+#![tactic(auto)]
+
+mod enhanced;
+mod key;
+pub mod laws;
+mod legacy;
+mod modes;
+mod mouse;
+mod paste;
+mod tables;
+mod text;
+
+pub use key::{Event, Key, Modifiers, Navigation, Pad, Stroke};
+pub use modes::{Encoding, Flags, KeyModes, Tracking};
+pub use mouse::{Action, Button, Mouse, MouseText, Wheel};
+pub use paste::{focus_text, put_paste};
+pub use text::{KeyText, Sequence};

@@ -1,0 +1,14 @@
+pub mod Fields
+pub mod Modes
+pub mod Cursor
+pub mod Keys
+pub mod Text
+pub mod Titles
+pub mod Progress
+pub mod Changes
+pub mod Asking
+pub mod Asked
+pub mod Both
+pub mod AskedProof
+pub mod Laws
+pub mod Colors

@@ -1,5 +1,5 @@
 -- A control sequence that is passed over asks for nothing.
-use Rattle.std.proofs.Common.{◌≡◌, ℕ, Bool, true, false, List, [], ◌∷◌, refl, arith}
+use Rattle.std.proofs.Common.{◌≡◌, ℕ, false, List, [], ◌∷◌, arith}
 use Rattle.ansi_modes.specs.declared.asked.Asked.{Asked}
 use Rattle.ansi_modes.specs.Asking.{may_ask}
 use Rattle.ansi_modes.specs.Asked.{sequenced}

@@ -1,8 +1,8 @@
 -- No definition, but proofs: the language wants those of a trait's laws among the specs.
-use Rattle.std.proofs.Common.{arith, ◌≡◌, ℕ, Bool, true, false, List, [], ◌∷◌, ◌++◌, map, refl, sym, ap, ◌∙◌}
+use Rattle.std.proofs.Common.{arith, ◌≡◌, ℕ, List, [], ◌∷◌, ◌++◌, map, refl, sym, ap, ◌∙◌}
 use Rattle.std.specs.Str.{chars}
-use Rattle.anstyle_parse.specs.Stream.Call.{Call, print, execute}
-use Rattle.anstyle_parse.specs.Stream.Texts.{FollowsCalls, text_calls, layout_calls, layout_call, is_layout}
+use Rattle.anstyle_parse.specs.Stream.Call.{Call, print}
+use Rattle.anstyle_parse.specs.Stream.Texts.{FollowsCalls, text_calls, layout_calls, layout_call}
 use Rattle.ansi_modes.specs.declared.asked.Asked.{Asked}
 use Rattle.ansi_modes.specs.Asked.{asked_after, asked_after_all}
 

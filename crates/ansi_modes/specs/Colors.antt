@@ -3,7 +3,7 @@
 -- Sources: xterm's ctlseqs, "Operating System Commands", 4, 10 to 12, 104, 110 to 112; XParseColor(3), "RGB Device String
 -- Specification", for how a colour is written. Of its more than eight bits the first eight count, as xterm 379 reports
 -- them. Names of colours are not known.
-use Rattle.std.specs.Prelude.{ℕ, suc, min, ◌+◌, ◌-◌, ◌*◌, ◌/◌, ◌%◌, Bool, true, false, ◌&&◌, ◌||◌, ◌==◌, nat_le, nat_lt, Option, None, Some, List, [], ◌∷◌, length, take, drop, replicate, slice_set, slice_index_or, if◌then◌else◌}
+use Rattle.std.specs.Prelude.{ℕ, suc, min, ◌+◌, ◌-◌, ◌*◌, ◌/◌, ◌%◌, Bool, true, false, ◌&&◌, ◌||◌, ◌==◌, nat_le, nat_lt, Option, None, Some, List, [], ◌∷◌, length, take, drop, replicate, slice_set, if◌then◌else◌}
 use Rattle.std.specs.List.{list_all}
 use Rattle.anstyle_parse.specs.Stream.Bytes.{is_within}
 use Rattle.ansi_modes.specs.Fields.{number_of}

@@ -2,7 +2,7 @@
 --
 -- Sources: xterm's ctlseqs, "Functions using CSI", DECSCUSR; the VT510 manual, DECSCUSR. That 12 and DECSCUSR speak of
 -- one blinking, and that a number above 6 changes nothing: xterm 379, asked by DECRQSS and DECRQM.
-use Rattle.std.specs.Prelude.{ℕ, Bool, true, false, Option, None, Some, ◌==◌, List, [], ◌∷◌}
+use Rattle.std.specs.Prelude.{ℕ, Bool, true, false, Option, ◌==◌, List, [], ◌∷◌}
 use Rattle.std.specs.Map.{lookup}
 use Rattle.ansi_modes.specs.declared.cursor.Shape.{Shape}
 use Rattle.ansi_modes.specs.declared.cursor.Shape.TheVariants.{Own, Block, Underline, Bar}

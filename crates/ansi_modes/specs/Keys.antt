@@ -3,7 +3,7 @@
 -- Sources: xterm's ctlseqs, "Functions using CSI", XTMODKEYS; its manual, modifyOtherKeys; Kovid Goyal, "Comprehensive
 -- keyboard handling in terminals" (sw.kovidgoyal.net/kitty/keyboard-protocol), "Progressive enhancement". That the stack
 -- holds the flags in force, and has eight places: kitty's screen.c, screen_push_key_encoding_flags.
-use Rattle.std.specs.Prelude.{ℕ, ◌-◌, ◌%◌, max, Bool, ◌==◌, nat_le, List, [], ◌∷◌, ◌++◌, bit_and, bit_or, length, take, drop, slice_index_or, if◌then◌else◌}
+use Rattle.std.specs.Prelude.{ℕ, ◌-◌, ◌%◌, max, ◌==◌, nat_le, List, [], ◌∷◌, ◌++◌, bit_and, bit_or, length, take, drop, slice_index_or, if◌then◌else◌}
 
 -- modifyOtherKeys: 1 and 2 ask for keys with modifiers; any other number asks for none
 unfoldable pub other_keys : ℕ → ℕ

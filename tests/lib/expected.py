@@ -788,6 +788,7 @@ PROGRAMS = [
         [],
         options=["--size=COLUMNSxROWS", "--draw", "--updates", "--output=FILE"],
         files=[([], [])],
-        following=[["--updates"]],
+        # (where no size is given the first line may say it)
+        following=[(["--size=80x24", "--updates"], b""), (["--updates"], b"a\n")],
     ),
 ]

@@ -13,7 +13,7 @@ class Program:
     its modes; its own options, where it has options; the words with which it writes fragments
     or a whole page of HTML, if it does; those by which it writes a text of its own, and reads nothing; with which
     words it is given files, each beside those by which it writes a text alone, with nothing around it; and those by
-    which it follows a stream."""
+    which it follows a stream, each beside what it reads before it writes."""
 
     def __init__(self, name, refused, modes, options=None, fragments=(), page=None, written=(), files=(), following=()):
         self.name, self.refused, self.modes, self.options = name, refused, modes, options

@@ -643,7 +643,7 @@ PROGRAMS = [
     Program(
         "ansi2text",
         refused_by("ansi2text", ["--page"], ["--Shown"], ["--shown80x24"], ["--LF"], ["--lf=1"])
-        + [([word], wrong_size(b"ansi2text")) for word in ("--shown=", "--shown=1x1", "--shown=80", "--shown=80x1001", "--shown==80x24")]
+        + [([word], wrong_size(b"ansi2text")) for word in ("--shown=", "--shown=1x1", "--shown=80", "--shown=80x1001", "--shown=80x2X4", "--shown==80x24")]
         + [(["--shown", "--shown=0x0"], wrong_size(b"ansi2text"))]
         + [(["--safe", "--shown=1x1"], wrong_size(b"ansi2text"))]
         + [(["--shown", *words], wrong_size(b"ansi2text")) for words in (["1x1"], ["80x1001"], ["9x9", "--shown", "0x24"], ["99999999999999999999x1"])],
@@ -658,10 +658,11 @@ PROGRAMS = [
             Mode(["--shown=80x24", "--lf"], SHOWN_ROWS, (b"\x1b[1mA\r\n", b"A\n"), [], stays=True, waits=True),
             Mode(["--safe", "--shown"], SHOWN_USUAL_ROWS, (b"\x1b[1mA\n", b"A\n"), [], stays=True, waits=True),
             Mode(["--safe", "--shown=9x9"], SAFE_SHOWN_ROWS, (b"\x1b[1mA<\r\n", b"A<\n"), [], waits=True),
-            Mode(["--shown=9x9", "--shown=80x24"], SHOWN_ROWS[-3:], (b"A\b\n", b"A\n"), [], stays=True, waits=True),
+            # (an X is taken as an x is)
+            Mode(["--shown=9x9", "--shown=80X24"], SHOWN_ROWS[-3:], (b"A\b\n", b"A\n"), [], stays=True, waits=True),
             Mode(["--shown=20x6"], SHOWN_NARROW_ROWS, (b"A\b\n", b"A\n"), [], stays=True, waits=True),
             Mode(["--shown", "20x6"], SHOWN_NARROW_ROWS, (b"A\b\n", b"A\n"), [], stays=True, waits=True),
-            Mode(["--shown=9x9", "--shown", "20x6", "--safe", "--lf"], SHOWN_NARROW_ROWS, (b"A\b\n", b"A\n"), [], stays=True, waits=True),
+            Mode(["--shown=9x9", "--shown", "20X6", "--safe", "--lf"], SHOWN_NARROW_ROWS, (b"A\b\n", b"A\n"), [], stays=True, waits=True),
             Mode(["--shown", "20x6", "--shown", "80x24"], SHOWN_ROWS[-3:], (b"A\b\n", b"A\n"), [], stays=True, waits=True),
         ],
         options=["--safe", "--lf", "--shown", "--shown=COLUMNSxROWS", "--output=FILE"],
@@ -789,6 +790,6 @@ PROGRAMS = [
         options=["--size=COLUMNSxROWS", "--draw", "--updates", "--output=FILE"],
         files=[([], [])],
         # (where no size is given the first line may say it)
-        following=[(["--size=80x24", "--updates"], b""), (["--updates"], b"a\n")],
+        following=[(["--size=80X24", "--updates"], b""), (["--updates"], b"a\n")],
     ),
 ]

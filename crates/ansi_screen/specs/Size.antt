@@ -1,5 +1,5 @@
 -- The size of a screen, and the texts that say one.
-use Rattle.std.specs.Prelude.{◌≡◌, ℕ, ◌≤◌, ◌==◌, ◌&&◌, nat_le, List, Option, None, Some, MatchOption, if◌then◌else◌}
+use Rattle.std.specs.Prelude.{◌≡◌, ◌⊎◌, ℕ, ◌≤◌, ◌==◌, ◌&&◌, nat_le, List, Option, None, Some, MatchOption, if◌then◌else◌}
 use Rattle.std.specs.List.{before_first, after_first}
 use Rattle.std.specs.Str.Parse.{IsNumeral, digits_value}
 use Rattle.ansi_screen.specs.declared.size.Size.{Size}
@@ -24,15 +24,21 @@ a_terminal = record { columns = 80; rows = 24 }
 abbrev pub IsNumber : List ℕ → ℕ → Type 0
 IsNumber text n = IsNumeral 10 text × (n ≡ digits_value 10 text)
 
--- COLUMNSxROWS: one number before the first x, and one after it
+-- COLUMNSxROWS, also with an X: one number before the first such sign, and one after it
+abbrev pub SaysBy : (sign : ℕ) → List ℕ → Size → Type 0
+SaysBy sign text size =
+    IsNumber (before_first (λ b. b == sign) text) size.columns × IsNumber (after_first (λ b. b == sign) text) size.rows
+
 abbrev pub Says : List ℕ → Size → Type 0
-Says text size =
-    IsNumber (before_first (λ b. b == 0x78) text) size.columns × IsNumber (after_first (λ b. b == 0x78) text) size.rows
+Says text size = SaysBy 0x78 text size ⊎ SaysBy 0x58 text size
 
 -- what is made of a text: the size that it says, where a screen can have it, and else nothing
+abbrev pub IsSaidBy : (says : List ℕ → Size → Type 0) → List ℕ → Option Size → Type 0
+IsSaidBy says text said =
+    MatchOption said ((size : Size) → says text size → ¬ (IsTaken size)) (λ size. says text size × IsTaken size)
+
 abbrev pub IsSaid : List ℕ → Option Size → Type 0
-IsSaid text said =
-    MatchOption said ((size : Size) → Says text size → ¬ (IsTaken size)) (λ size. Says text size × IsTaken size)
+IsSaid text said = IsSaidBy Says text said
 
 -- the size of a screen where a text may name it: with no text a terminal's
 abbrev pub IsNamed : Option (List ℕ) → Option Size → Type 0

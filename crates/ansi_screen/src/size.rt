@@ -1,6 +1,6 @@
 //! The size of a screen, and how a text says it.
 ghost use Rattle.std.specs.Prelude.{◌≡◌, ℕ, ◌^◌, ◌<◌, IfSome, MatchOption};
-ghost use Rattle.ansi_screen.specs.Size.{a_terminal, size_if_taken, IsNumber, IsSaid, IsTaken};
+ghost use Rattle.ansi_screen.specs.Size.{a_terminal, size_if_taken, IsNumber, IsSaid, IsSaidBy, IsTaken, SaysBy};
 
 /// The least and the greatest sizes of a screen.
 pub const MIN_COLUMNS: usize = 2;
@@ -45,12 +45,23 @@ impl Size {
         }
     }
 
-    /// The size that a text says, COLUMNSxROWS, of 2 to 1,000 columns and 1 to 1,000 rows, in decimal.
-    /// `None` for a text that says none.
+    /// The size that a text says, COLUMNSxROWS, of 2 to 1,000 columns and 1 to 1,000 rows, in decimal, also with an
+    /// X. `None` for a text that says none.
     pub fn parse(text: &str) -> Option<Size>
         ensures { IsSaid text.now result }
     {
-        let (columns, rows) = text.split_once('x')?;
+        match Size::parse_by(text, 'x') {
+            None => Size::parse_by(text, 'X'),
+            Some(size) => Some(size),
+        }
+    }
+
+    /// The size that a text says with this sign.
+    fn parse_by(text: &str, sign: char) -> Option<Size>
+        requires { sign < 128 }
+        ensures { IsSaidBy (SaysBy sign) text.now result }
+    {
+        let (columns, rows) = text.split_once(sign)?;
         Size::of(number(columns)?, number(rows)?)
     }
 }

@@ -21,10 +21,13 @@ is_digit byte = nat_le 0x30 byte && nat_le byte 0x39
 abbrev pub is_number : (text : List ℕ) → Bool
 is_number text = not (nat_eq (length text) 0) && list_all is_digit text
 
--- a word that has the form of a size, COLUMNSxROWS: a number before the first x, and one after it
+-- a word that has the form of a size, COLUMNSxROWS, also with an X: a number before that sign, and one after it
+abbrev pub is_size_by : (sign : ℕ) → (word : List ℕ) → Bool
+is_size_by sign word =
+    is_number (before_first (λ byte. nat_eq byte sign) word) && is_number (after_first (λ byte. nat_eq byte sign) word)
+
 abbrev pub is_size : (word : List ℕ) → Bool
-is_size word =
-    is_number (before_first (λ byte. nat_eq byte 0x78) word) && is_number (after_first (λ byte. nat_eq byte 0x78) word)
+is_size word = is_size_by 0x78 word || is_size_by 0x58 word
 
 -- A word may have a size, the next word, for its value: it is one of these options as it stands, and with = too.
 abbrev pub may_have_size : (options : List (List ℕ)) → (word : List ℕ) → Bool

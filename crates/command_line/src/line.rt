@@ -2,7 +2,7 @@
 ghost use Rattle.std.specs.Prelude.{◌≡◌, ◌++◌, ◌∷◌, [], map, string_bytes, OnOk, IfOk};
 ghost use Rattle.std.specs.List.{list_all};
 ghost use Rattle.command_line.specs.Options.{texts};
-ghost use Rattle.command_line.specs.Line.{is_digit, is_number, is_size, may_have_size, is_file, place_behind, place_after, options_said, files_said, options_of, files_of, options_in, files_in, joined, before_value};
+ghost use Rattle.command_line.specs.Line.{is_digit, is_number, is_size, is_size_by, may_have_size, is_file, place_behind, place_after, options_said, files_said, options_of, files_of, options_in, files_in, joined, before_value};
 
 use crate::options::{
     OUTPUT, SHORT_OUTPUT, after, given_words, is_one_of, is_valued_one, wants_value,
@@ -171,11 +171,19 @@ fn may_have_size(word: &str, options: &[&str]) -> bool
     is_one_of(word, options) && is_valued_one(word, options)
 }
 
-/// Whether a word has the form of a size: COLUMNSxROWS, each in decimal.
+/// Whether a word has the form of a size: COLUMNSxROWS, each in decimal, also with an X.
 fn is_size(word: &str) -> bool
     ensures { result ≡ is_size word.now }
 {
-    match word.split_once('x') {
+    is_size_by(word, 'x') || is_size_by(word, 'X')
+}
+
+/// Whether it has this form with this sign.
+fn is_size_by(word: &str, sign: char) -> bool
+    requires { sign < 128 }
+    ensures { result ≡ is_size_by sign word.now }
+{
+    match word.split_once(sign) {
         Some((columns, rows)) => is_number(columns.as_bytes()) && is_number(rows.as_bytes()),
         None => false,
     }

@@ -11,7 +11,8 @@ use std::fmt::Debug;
 use std::process::Abort;
 use terminal_keys::{Event, Flags, Key, KeyModes, KeyText, Modifiers, Stroke};
 
-/// Two values are the same; else both are shown.
+/// Two values are the same; else both are shown. (It stands in each crate of tests, as what it is called by: a function
+/// that may end the process is let stand in tests alone, and no other crate sees those.)
 fn assert_same<T: PartialEq + Debug>(rt: &impl Abort, value: &T, wanted: &T) {
     assert_eq!(rt; *value, *wanted);
 }

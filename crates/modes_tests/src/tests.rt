@@ -6,7 +6,8 @@ use anstyle_parse::{Parser, Utf8Parser};
 use std::fmt::Debug;
 use std::process::Abort;
 
-/// Two values are the same; else both are shown.
+/// Two values are the same; else both are shown. (It stands in each crate of tests: a function that may end the process
+/// is let stand in tests alone, and no other crate sees those.)
 fn assert_same<T: PartialEq + Debug>(rt: &impl Abort, value: &T, wanted: &T) {
     assert_eq!(rt; *value, *wanted);
 }

@@ -1,14 +1,14 @@
 -- The first line of a stream, and the size that it says.
 use Rattle.std.proofs.Common.{◌≡◌, ℕ, zero, suc, ◌+◌, ◌<◌, ◌≤◌, ◌-◌, min, Bool, true, false, ◌||◌, List, [], ◌∷◌, ◌++◌, ◌⊎◌, inl, inr, length, take, drop, get_or, refl, sym, ap, ◌∙◌, arith, append-nil}
-use Rattle.std.proofs.lemmas.Bool.{leb-true}
+use Rattle.std.proofs.lemmas.Bool.{leb-true, ne_eqb}
 use Rattle.std.proofs.lemmas.List.{take_min, take_all, drop_more, length-drop}
 use Rattle.std.specs.Prelude.{◌==◌, nat_le, Option, None, Some, if◌then◌else◌}
 use Rattle.std.specs.List.{list_any}
-use Rattle.std.specs.Option.{unwrap_or}
+use Rattle.std.specs.Option.{option_or, unwrap_or}
 use Rattle.ansi_screen.specs.declared.size.Size.{Size}
 use Rattle.screen_text.specs.declared.recording.ShownSize.{ShownSize}
 use Rattle.screen_text.specs.declared.recording.ShownSize.TheVariants.{Recorded, Fixed}
-use Rattle.screen_text.specs.Recording.{most_front, first_line, size_of_line, recorded_size, after_line, given_after, without_line, of_a_log, size_for, is_decided}
+use Rattle.screen_text.specs.Recording.{most_front, first_line, after_text, size_of_end, size_of_line, recorded_size, after_line, given_after, without_line, of_a_log, size_for, is_decided}
 
 -- What comes after so many bytes, or after a line feed, changes no first line.
 line-on : (b : ℕ) (n : ℕ) (front rest : List ℕ) (t : Bool) → (b == 0x0A) ≡ t → (n ≤ length front) ⊎ (list_any (λ c. c == 0x0A) (b ∷ front) ≡ true)
@@ -42,6 +42,14 @@ line-decided front is = by_length (nat_le most_front (length front)) refl is
         → (most_front ≤ length front) ⊎ (list_any (λ c. c == 0x0A) front ≡ true)
     by_length true long is = inl (leb-true most_front (length front) long)
     by_length false long is = inr (ap (λ t. t || list_any (λ c. c == 0x0A) front) (sym long) ∙ is)
+
+-- A size begins with a space: of what begins with another byte, the rest says what is said.
+no-size-here : (b : ℕ) (bytes : List ℕ) → ¬ (b ≡ 0x20) → size_of_end (b ∷ bytes) ≡ None
+unfolding size_of_end after_text
+no-size-here b bytes other = rw (ne_eqb 0x20 b (λ is. other (sym is))) refl
+
+pub passed-over : (b : ℕ) (bytes : List ℕ) → ¬ (b ≡ 0x20) → size_of_line (b ∷ bytes) ≡ size_of_line bytes
+passed-over b bytes other = ap (λ said. option_or said (size_of_line bytes)) (no-size-here b bytes other)
 
 -- what a stream says does not change
 pub recorded-stays : (front rest : List ℕ) → (is_decided Recorded front ≡ true) ⊎ (rest ≡ []) → recorded_size (front ++ rest) ≡ recorded_size front

@@ -1,4 +1,4 @@
-//! Keys by kitty's protocol: the rows of kitty_tests/keys.py, and of its page.
+//! Keys by kitty's protocol: the rows of kitty's own tests of keys, and of its page.
 use super::{
     Row, alt, assert_rows, control, flags, none, press, shift, shift_alt, shift_control, typed,
 };

@@ -1,4 +1,4 @@
-//! The mouse: the rows of libvterm's t/17state_mouse.test, of kitty_tests/keys.py, and of xterm's page.
+//! The mouse: the rows of libvterm's t/17state_mouse.test, of kitty's own tests of keys, and of xterm's page.
 use super::{alt, assert_bytes, bytes_of, control, memory, none, shift};
 use std::alloc::AllocGlobal;
 use std::process::Abort;

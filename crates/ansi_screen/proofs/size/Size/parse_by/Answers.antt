@@ -1,5 +1,5 @@
 use Rattle.std.proofs.Common.{rules}
-use Rattle.ansi_screen.proofs.size.Size.parse.Goals as goal
+use Rattle.ansi_screen.proofs.size.Size.parse_by.Goals as goal
 
 pub returns-in_err-number : goal.returns-in_err-number
 returns-in_err-number c =

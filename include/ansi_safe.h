@@ -50,8 +50,8 @@ extern "C" {
 #define ANSI_SAFE_END_ROOM 50
 
 /* The room in which any `count` bytes are always taken at once: of each byte two characters and a mark before each, of ten
- * bytes at most, and two characters that waited. (The text of a whole stream is at most twenty times as long as its bytes,
- * and ten bytes more; mostly it is as long as these.) */
+ * bytes at most, and two characters that waited. (The text of a whole stream is at most twenty times as long as what is
+ * read of it, and ten bytes more; mostly it is as long.) */
 #define ANSI_SAFE_ROOM(count) (40 * (size_t)(count) + 40)
 
 /* Where a stream and its text stand between two pieces: 1,064 bytes, which belong to the caller.

@@ -199,7 +199,7 @@ bool ansi_screen_text(ansi_screen *screen, unsigned char *room, size_t size, siz
 bool ansi_screen_link(ansi_screen *screen, uint32_t number, unsigned char *room, size_t size, size_t *written);
 
 /* The three that follow write bytes to the front of `room`, and how many there are to `written`, as those of text do. While they
- * work, they take as much memory as the bytes (malloc); where there is none, they answer false, and `written` is 0. */
+ * work, they take memory for the bytes (malloc); where there is none, they answer false, and `written` is 0. */
 
 /* The bytes after which any terminal of its size shows the screen, whatever it showed before: all but links and which rows go
  * on. */
@@ -211,9 +211,9 @@ bool ansi_screen_update(ansi_screen *shown, ansi_screen *wanted, unsigned char *
 
 /* What the screen shows as HTML, which a page has after `<pre>` and a newline: each character in the style of its cell, and in
  * its link; a row that goes on and the next one are one line, and what was never printed at the end of a row and of the screen
- * is left out. As long as no row has left, that is what ansi2html(1) writes with --fragment --shown of a stream in UTF-8 that has CR LF
- * between its lines, and no BEL in a string APC, PM or SOS; but for the main screen, which this leaves out where the alternate one
- * shows. `styling` is 0 for light and dark pages, 1 for light ones, 2 for dark ones, and 3 for
+ * is left out. As long as no row has left, that is what ansi2html(1) writes with --fragment --shown on this size of a stream in UTF-8
+ * that has CR LF between its lines, and no BEL in a string APC, PM or SOS; but for the main screen, which this leaves out where the
+ * alternate one shows. `styling` is 0 for light and dark pages, 1 for light ones, 2 for dark ones, and 3 for
  * classes in place of styles, as in ansi_html.h; any other number is 0. */
 bool ansi_screen_html(ansi_screen *screen, unsigned char styling, unsigned char *room, size_t size, size_t *written);
 

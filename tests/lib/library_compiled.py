@@ -305,7 +305,7 @@ def short_cases(ansi):
         stream = bytes(pick.choices(OFTEN + b"<&8http://a", k=pick.choice([0, 1, 5, 40, 1023, 1024, 1025])))
         text = stream.decode("utf-8", "surrogateescape") if pick.random() < 0.5 else stream.decode("utf-8", "replace")
         for whole, in_parts in calls:
-            of_text = b"".join(in_parts([text.encode("utf-8", "surrogatepass")])).decode()
+            of_text = b"".join(in_parts([utf8(text)])).decode()
             if whole(stream) != b"".join(in_parts([stream])) or whole(text) != of_text or type(whole(text)) is not str:
                 wrong.append(stream)
     yield "Python: short wholes are as in a stream", "not %r" % wrong[0] if wrong else None

@@ -136,8 +136,7 @@ def python_event_cases(ansi):
         yield "Python: events of %r are a TypeError" % (given,), None if answer is None else "it gave %r" % answer
     given = "\u20ac\ud800\U0001f600\x1b[1m"
     found = "".join("%s\n" % it for it in lines_of_events(ansi.events(given))).encode()
-    wanted = log_of(given.encode("utf-8", "surrogatepass"))
-    yield "Python: events of a str are those of its UTF-8, surrogates too", first_difference(found, wanted)
+    yield "Python: events of a str are those of its UTF-8", first_difference(found, log_of(utf8(given)))
     asked = []
     first = next(ansi.events(asked.append(it) or it for it in (b"one", b"two")))
     why = None if first == ("one",) and len(asked) == 1 else "%r came after %d pieces" % (first, len(asked))

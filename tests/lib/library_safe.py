@@ -74,11 +74,11 @@ def whole_safe_cases(ansi):
     wrong = None
     for at in [*range(0x3000), *range(0xD700, 0xE100), *range(0x3000, 0x110000, 97)]:
         text = "a<%c" % at
-        given = text.encode("utf-8", "surrogatepass")
+        given = utf8(text)
         if wrong is None and ansi.strip(text, safe=True) != ansi.strip(given, safe=True).decode():
             wrong = "of %r it is %r" % (text, ansi.strip(text, safe=True))
         text = "ab\n%c" % at
-        given = text.encode("utf-8", "surrogatepass")
+        given = utf8(text)
         if wrong is None and ansi.strip(text, safe=True) != ansi.strip(given, safe=True).decode():
             wrong = "of %r it is %r" % (text, ansi.strip(text, safe=True))
     yield "safe: of a str with any character what it is of its UTF-8", wrong

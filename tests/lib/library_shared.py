@@ -57,6 +57,11 @@ def read(path):
         return file.read()
 
 
+def utf8(text):
+    """The UTF-8 of a str, in which each surrogate is U+FFFD."""
+    return "".join("\ufffd" if "\ud800" <= it <= "\udfff" else it for it in text).encode()
+
+
 def left_out(name):
     """A case for a compiler that is not there."""
     return needs.left_out(name, "its compiler is not there")

@@ -231,11 +231,11 @@ class Calls(unittest.TestCase):
             self.assertEqual("".join(it.text for it in ansi_proved.events(text) if isinstance(it, Text)), words)
 
     def test_a_short_whole_is_as_a_long_one(self):
-        rows = ["", "clean", "\x1b[31mred", "\x1b[1ma\u20ac\U0001f600<&>\"'\r\n", "\ud800", "\x1b]0;t", "a\x7f\x9b", "a\x7f", "\x9b"]
+        rows = ["", "clean", "\x1b[31mred", "\x1b[1ma\u20ac\U0001f600<&>\"'\r\n", "\x1b]0;t", "a\x7f\x9b", "a\x7f", "\x9b"]
         rows += [1024 * "a", 1025 * "a", 511 * "\u20ac"]
         for row in rows * 2:  # (each is a stream of its own, whatever came before)
-            for text in (row, row.encode("utf-8", "surrogatepass"), row.encode("utf-8", "surrogatepass")[:-1]):
-                stream = text if type(text) is bytes else text.encode("utf-8", "surrogatepass")
+            for text in (row, row.encode(), row.encode()[:-1]):
+                stream = text if type(text) is bytes else text.encode()
                 calls = [(ansi_proved.strip(text), ansi_proved.text_of([stream])), (ansi_proved.safe(text), ansi_proved.text_of([stream], safe=True))]
                 calls += [(ansi_proved.to_html(text, it), ansi_proved.html_of([stream], it)) for it in ansi_proved.STYLINGS]
                 for found, parts in calls:
@@ -244,6 +244,22 @@ class Calls(unittest.TestCase):
         clean = "".join(["cle", "an"])
         self.assertIs(ansi_proved.strip(clean), clean)
         self.assertIs(ansi_proved.to_html(clean), clean)
+
+    def test_a_surrogate_is_a_character_that_is_broken(self):
+        rows = [("\ud800", "\ufffd"), ("caf\udce9.log", "caf\ufffd.log"), ("\ud83d\ude00 \u20ac", "\ufffd\ufffd \u20ac")]
+        rows += [("a\udc9b31mb", "a\ufffd31mb"), (2000 * "\udcff", 2000 * "\ufffd")]
+        calls = [ansi_proved.strip, ansi_proved.safe, lambda it: ansi_proved.strip(it, lf=True), ansi_proved.to_html]
+        calls += [lambda it, by=by: "".join(by([it])) for by in (ansi_proved.text_of, ansi_proved.html_of)]
+        calls += [lambda it: "".join(ansi_proved.text_of([it], safe=True)), lambda it: ansi_proved.shown(it)[:-1]]
+        calls += [lambda it: ansi_proved.page(it).partition("<pre>\n")[2].partition("</pre>")[0]]
+        calls += [lambda it: "".join(event.text for event in ansi_proved.events(it))]
+        calls += [lambda it: "".join(event.text for event in ansi_proved.Events().feed(it))]
+        for text, wanted in rows:
+            self.assertEqual([call(text) for call in calls], [wanted] * len(calls))
+            with ansi_proved.Screen(80, 30) as screen:
+                screen.feed(text)
+                self.assertEqual(screen.text(joined=True), wanted + "\n")
+        self.assertEqual(list(ansi_proved.events("\x1b]0;\ud800\x07")), [Osc((b"0", b"\xef\xbf\xbd"), True)])
 
     def test_an_unknown_styling_is_refused(self):
         for given in ("plain", "\x1b[1m", b"plain", b"\x1b[1m", bytearray(b"a"), memoryview(b"a"), 2000 * b"a"):

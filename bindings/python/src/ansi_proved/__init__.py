@@ -11,7 +11,8 @@ r"""Terminal output as clean text, HTML, events or a screen, by a proved library
     Screen(80, 24)    a terminal's screen, to feed and to look at, cell by cell
 
 A text is a str, and leads to a str; or bytes, a bytearray or a memoryview, and leads to bytes. What is none of these is a
-TypeError in words. HTML has a styling: "both" (light and dark pages), "light", "dark" or "classes".
+TypeError in words. A surrogate in a str, as errors="surrogateescape" leaves it, is U+FFFD everywhere, as a broken character is.
+HTML has a styling: "both" (light and dark pages), "light", "dark" or "classes".
 
 help(ansi_proved.strip), and so on of each name, says more. Threads may call all of it, and share a Screen and what text_of,
 html_of and events give. `python -m ansi_proved` runs the programs ansi2text, ansi2html, ansi2screen and parselog.

@@ -585,16 +585,22 @@ static PyObject *text_as(Whole *whole, PyObject *given, PyObject *bytes, size_t 
     return PyBytes_FromStringAndSize(made, (Py_ssize_t)count);
 }
 
-/* The bytes of a str or of bytes where these are no type of their own and not too long, as a reference; or NULL. */
+/* The bytes of a str or of bytes where these are no type of their own and not too long, as a reference; or NULL, as where a str
+ * has surrogates. */
 static PyObject *few_bytes(Whole *whole, PyObject *given)
 {
+    PyObject *bytes = NULL;
+
     if (PyBytes_CheckExact(given)) {
         Py_INCREF(given);
         return given;
     }
-    if (PyUnicode_CheckExact(given) && PyUnicode_GetLength(given) <= whole->few)
-        return PyUnicode_AsEncodedString(given, "utf-8", "surrogatepass");
-    return NULL;
+    if (PyUnicode_CheckExact(given) && PyUnicode_GetLength(given) <= whole->few) {
+        bytes = PyUnicode_AsUTF8String(given);
+        if (bytes == NULL && PyErr_ExceptionMatches(PyExc_UnicodeEncodeError))
+            PyErr_Clear();
+    }
+    return bytes;
 }
 
 /* The text of a whole, or None where it has to be made otherwise. */

@@ -2,6 +2,7 @@
 
 import ctypes
 import os
+import re
 import threading
 
 FEW = 1024  # bytes of a whole that goes through what an earlier one went through
@@ -76,12 +77,21 @@ WRITTEN = Counts.written.offset
 
 
 PIECES = str, bytes, bytearray, memoryview
+SURROGATE = re.compile("[\ud800-\udfff]")
+
+
+def utf8(text):
+    """The UTF-8 of a str, of a type derived from it too. A surrogate, which no UTF-8 has, is U+FFFD in it."""
+    try:
+        return str.encode(text)
+    except UnicodeEncodeError:
+        return SURROGATE.sub("\ufffd", text).encode()
 
 
 def bytes_of(piece):
     """The bytes of a piece, however it holds them."""
     if isinstance(piece, str):
-        return exact(piece).encode("utf-8", "surrogatepass")
+        return utf8(piece)
     if not isinstance(piece, PIECES):
         raise TypeError("a piece is str, bytes, bytearray or memoryview, and not " + type(piece).__name__)
     return bytes(piece)
@@ -137,7 +147,7 @@ def exact(text):
 def whole_of(text):
     """The bytes of a whole text, and whether it is a str."""
     if isinstance(text, str):
-        return text.encode("utf-8", "surrogatepass"), True
+        return utf8(text), True
     if not isinstance(text, (bytes, bytearray, memoryview)):
         raise TypeError("a text is str, bytes, bytearray or memoryview, and not " + type(text).__name__)
     return bytes(text), False

@@ -14,8 +14,8 @@ def shown(text, columns=80, rows=24):
 
     A line feed begins a line, as in a log. A row that wrapped and the next one are one line. What is written over is lost, and so is
     what the alternate screen showed, unless it still shows at the end: then the main screen comes first. A byte that belongs to no
-    character leaves nothing, as with `Screen`, as does a character that is only begun at the end. Of a str it is a str, of bytes, a
-    bytearray or a memoryview bytes.
+    character leaves nothing, as with `Screen`, as does a character that is only begun at the end; a surrogate of a str is U+FFFD. Of a
+    str it is a str, of bytes, a bytearray or a memoryview bytes.
     """
     check_size(columns, rows)
     stream, is_str = whole_of(text)

@@ -5,7 +5,7 @@ import re
 
 from .library import (
     END, FEED, FEW, TOO_LITTLE, Counts, Idle, Room, Shared, address_of, decoded, exact, function, parts_of, pieces_of,
-    short_by, whole_of, whole_text,
+    short_by, utf8, whole_of, whole_text,
 )  # fmt: skip
 from .lines import Lines
 from .safe import safe as safe_text, safe_of
@@ -118,7 +118,7 @@ def is_clean(text):
         return "\x1b" not in text and CLEAN.match(text).end() == len(text)
     if text.isascii():
         return False
-    begin = text[:4096].encode("utf-8", "surrogatepass")
+    begin = utf8(text[:4096])
     return 2 * len(begin) > 3 * min(len(text), 4096) and CLEAN.match(text).end() == len(text)
 
 
@@ -126,7 +126,7 @@ def strip(text, *, safe=False, lf=False):
     """The text of terminal output: of a str a str, of bytes, a bytearray or a memoryview bytes.
 
     It drives no terminal: DEL and U+0080 to U+009F, which some terminals take for controls, are left out too. No other
-    byte vanishes: what is broken, and what belongs to no character, is U+FFFD. Where it is
+    byte vanishes: what is broken, and what belongs to no character, is U+FFFD, as is each surrogate of a str. Where it is
     to be safe, it hides nothing, as that of `ansi2text --safe`: what shows nothing, turns the order of text round or is a
     control is written visibly, as `<U+202E>`, and text that a stream hides (SGR 8) stands between `<U+hidden>` and
     `<U+shown>`. With `lf` each carriage return right before a line feed goes, as a recording by script(1) has it at the end

@@ -92,6 +92,19 @@ for event in ansi_proved.events("a"):
         event.parameters  # wrong
     else:
         unhook: Unhook = event
+def named(event: ansi_proved.Event) -> str:
+    return event.text if isinstance(event, Text) else type(event).__name__
+
+
+stream = ansi_proved.Events()
+found: List[ansi_proved.Event] = stream.feed("a") + stream.feed(memoryview(b"a"))
+text = named(found[0])
+stream.end()
+stream.feed(["a"])  # wrong
+stream.feed()  # wrong
+texts: List[Text] = stream.feed("a")  # wrong
+named("a")  # wrong
+ansi_proved.Events("a")  # wrong
 ansi_proved.events([b"a", "b"])
 ansi_proved.events(open("log", "rb"))
 ansi_proved.events(5)  # wrong
@@ -106,6 +119,7 @@ with Screen(120, 40, history=100) as screen:
     row: List[Cell] = screen.row(0)
     rows: List[List[Cell]] = screen.cells
     numbers: List[int] = screen.changed()
+    columns: Tuple[int, int, int] = screen.changes()[0]
     cursor: Cursor = screen.cursor
     modes: Modes = screen.modes
     style: Style = cell.style

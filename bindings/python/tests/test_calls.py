@@ -208,6 +208,10 @@ class Calls(unittest.TestCase):
                 one.feed(wrong)
         large = b"\x1b[1mx" * 50_000
         self.assertEqual(one.feed(large), list(ansi_proved.events(large)))
+        for begun in (b"\x1b[3", b"\xe2\x82", b"\x1b]0;title", b"\x1bP1q", b""):
+            one.feed(begun)
+            self.assertIsNone(one.end())
+            self.assertEqual(one.feed("1mA"), [Text("1mA")])
         self.assertEqual(typing.get_args(ansi_proved.Event), (Text, Execute, Hook, Put, Unhook, Osc, Csi, Esc))
 
     def test_what_a_piece_leads_to_comes_before_the_next_is_asked_for(self):

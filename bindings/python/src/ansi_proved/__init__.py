@@ -7,7 +7,7 @@ r"""Terminal output as clean text, HTML, events or a screen, by a proved library
     to_html(text)     its HTML, to paste after <pre> and a newline: to_html("\x1b[1mhi") is '<span style="font-weight:bold;">hi</span>'
     page(text)        a whole page of it; stylesheet() the rules of HTML by classes
     text_of(stream), html_of(stream)    the same of a stream in pieces, such as a file, piece by piece
-    events(stream)    its events, named tuples: Text, Execute, Csi, Esc, Osc, Hook, Put, Unhook (any: Event); Events().feed(piece)
+    events(stream)    its events, named tuples: Text, Execute, Csi, Esc, Osc, Hook, Put, Unhook (any: Event); Events().feed(piece), end()
     Screen(80, 24)    a terminal's screen, to feed and to look at, cell by cell
 
 A text is a str, and leads to a str; or bytes, a bytearray or a memoryview, and leads to bytes. What is none of these is a

@@ -291,12 +291,12 @@ class Events:
             for event in stream.feed(piece):
                 ..
 
-    Threads may share one: a call waits for that of another.
+    The events say the same however the stream is cut, but for a text, which is cut where its piece ends. The end leads to none, so a
+    last stream needs no `end()`. Threads may share one: a call waits for that of another.
     """
 
     def __init__(self):
-        self._lock = Lock()
-        self._feed = _CompiledReader(iter(()), *_REST).feed if IS_COMPILED else _listed(_Reader())
+        self._lock, self._feed = Lock(), _new_feed()
 
     def feed(self, piece):
         """The events of the piece that comes next, a list: a piece is a str, bytes, a bytearray or a memoryview."""
@@ -304,7 +304,15 @@ class Events:
         with self._lock:
             return self._feed(piece)
 
+    def end(self):
+        """Ends the stream: what is begun leaves no event, and the next piece begins another stream."""
+        with self._lock:
+            self._feed = _new_feed()
 
-def _listed(reader):
-    """What gives the events of the next piece by a reader in Python."""
+
+def _new_feed():
+    """What gives the events of the pieces of one stream, each as a list."""
+    if IS_COMPILED:
+        return _CompiledReader(iter(()), *_REST).feed
+    reader = _Reader()
     return lambda piece: list(chain.from_iterable(reader.events(piece)))

@@ -6,9 +6,9 @@
  * The bytes & < > " ' and a carriage return are written as character references. Text that is not plain
  * stands in <span style="..">, and what has a link (OSC 8) to https://, http:// or mailto: in
  * <a rel="nofollow noreferrer" href=".." style="..">, which is opened where the link begins and closed where it
- * ends; with ANSI_HTML_CLASSES the attribute is class. A link that is shown was not cut. The HTML is at most 74
- * times as long as the stream, by classes 35 times, and 11 bytes. Before what is printed after a carriage return stands
- * <br>, unless it is a line feed. No markup comes in from the stream.
+ * ends; with ANSI_HTML_CLASSES the attribute is class. A link that is shown is all that its command says. The HTML is
+ * at most 74 times as long as the stream, by classes 35 times, and 11 bytes. Before what is printed after a carriage
+ * return stands <br>, unless it is a line feed. No markup comes in from the stream.
  *
  * The HTML is a fragment for a <pre> of a page in UTF-8, right after a newline there. For classes the page
  * has the rules that `ansi2html --stylesheet` writes.

@@ -179,7 +179,7 @@ bool ansi_screen_changed(ansi_screen *screen, size_t row, size_t *first, size_t 
 bool ansi_screen_forget(ansi_screen *screen);
 
 /* The three that follow write text, in UTF-8, to the front of `room`, which has `size` bytes, and how many bytes it has
- * to `written`. They answer false where there is no such row or column, and `written` is 0; and where the text has more
+ * to `written`. They answer false where there is no such row or part, and `written` is 0; and where the text has more
  * than `size` bytes: then `written` says how many, and what stands in the room does not count. */
 
 /* A row, counted from 0, without the blanks at its end. */

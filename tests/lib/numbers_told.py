@@ -69,7 +69,7 @@ PHRASES = {
         "is shown, in {ansi_style} bytes", "from bold on each is {ON} or {OFF}", "of a screen shows, in {ansi_cell} bytes", "each link (osc 8) since the last reset; {NO_LINK} for none",
         "{GOES_ON} in the last cell of a row from which autowrap went on", "modes, in {ansi_modes} bytes: each is {ON} where it is on, else {OFF}", "dectcem. 1049. decawm", "decom. {OFF}.",
         "what it shows, in {ansi_screen_options} bytes", "about {CELL} bytes a cell. 0.", "where the cursor is, counted from {FIRST}", "its row and its column, counted from {FIRST}",
-        "the cells of a row, counted from {FIRST}", "which cells of a row, counted from {FIRST}", "or column, and written is 0", ". a row, counted from {FIRST}",
+        "the cells of a row, counted from {FIRST}", "which cells of a row, counted from {FIRST}", "or part, and written is 0", ". a row, counted from {FIRST}",
         "has bytes from {LOWEST} to {HIGHEST} alone", "the last {LINKS} links that began are kept", "it answers true, and written is 0", "answer false, and written is 0",
         "answers false, and written is 0, where they have different sizes", "is {ANY_STYLING} for light and dark pages, {LIGHT} for light ones, {DARK} for dark ones, and {CLASSES} for classes",
         "where ed 2, ed 0 at its first cell or ris", "the oldest has the number {FIRST}, and the one that left last kept - 1",

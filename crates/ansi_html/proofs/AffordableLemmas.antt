@@ -1,8 +1,8 @@
 -- What is spare for links, and the calls whose links can pay: they have the text of the stream, and its links where these
 -- are short.
-use Rattle.std.proofs.Common.{◌≡◌, ◌≤◌, ℕ, ◌+◌, ◌*◌, ◌-◌, Bool, true, false, ◌&&◌, List, [], ◌∷◌, ◌++◌, codes, length, refl, ap, ◌∙◌, arith}
+use Rattle.std.proofs.Common.{◌≡◌, ◌≤◌, inl, inr, ℕ, ◌+◌, ◌*◌, ◌-◌, min, Bool, true, false, ◌&&◌, List, [], ◌∷◌, ◌++◌, codes, length, refl, sym, ap, ◌∙◌, arith}
 use Rattle.std.specs.Prelude.{not, nat_lt, if◌then◌else◌}
-use Rattle.std.proofs.lemmas.Bool.{ltb-true, ltb-false, le-leb}
+use Rattle.std.proofs.lemmas.Bool.{ltb-true, ltb-false, le-leb, cases_lt}
 use Rattle.std.proofs.lemmas.Str.{length-encode, len_utf8_bounds}
 use Rattle.anstyle_parse.specs.Stream.Call.{Call, print, execute, hook, put, unhook, osc_dispatch, csi_dispatch, esc_dispatch}
 use Rattle.ansi_strip.specs.Strip.{is_layout, stripped_call, stripped}
@@ -45,6 +45,24 @@ earned-twice m n spare =
 pub earned-more : (m spare : ℕ) (text : List ℕ) → earned_by_text text (earned m spare) ≡ earned (m + length text) spare
 earned-more m spare [] = ap (λ n. earned n spare) (omega arith)
 earned-more m spare (b ∷ text) = earned-twice m (length (b ∷ text)) spare
+
+-- Bytes that earn all that is kept; and more bytes than a number holds earn no more than as many as it holds.
+earned-many : (count spare : ℕ) → max_spare ≤ byte_earns * count → earned count spare ≡ max_spare
+earned-many count spare many = by_case (nat_lt (spare + byte_earns * count) max_spare) refl
+  where
+    by_case : (is : Bool) → nat_lt (spare + byte_earns * count) max_spare ≡ is → (if is then spare + byte_earns * count else max_spare) ≡ max_spare
+    by_case true e = omega (arith, ltb-true (spare + byte_earns * count) max_spare e, many)
+    by_case false e = refl
+
+pub earned-counted : (count pending spare counted : ℕ) → counted ≡ min (pending + count) 18446744073709551615
+    → earned counted spare ≡ earned count (earned pending spare)
+earned-counted count pending spare counted is = elim (cases_lt 18446744073709551615 (pending + count)) [
+  | inl more ↦
+      earned-many counted spare (omega (arith, is, more))
+      ∙ sym (earned-many (pending + count) spare (omega (arith, more)))
+      ∙ sym (earned-twice pending count spare)
+  | inr few ↦ ap (λ n. earned n spare) (omega (arith, is, few)) ∙ sym (earned-twice pending count spare)
+]
 
 -- No more is earned than so much,
 pub few-earned : (count spare : ℕ) → earned count spare ≤ spare + 25 * count

@@ -55,7 +55,7 @@ module _ {W : Type 0} (sink : SinkOf W) (old : Inside W) where
       let after = record old { lines = record old.lines { html = new } } in
       taken call after
       (subst (λ is. Takes call is after) (sym numbered)
-      (refl, (takes.styling, (ap (λ at. lined at old.lines.number old.lines.is_open old.lines.spare) takes.standing, takes.added))))
+      (refl, (takes.styling, (ap (λ at. lined at old.lines.number old.lines.is_open (lined_of old).spare) takes.standing, takes.added))))
 
   -- The same of several.
   abbrev TakesAll : List Call → Bool → Inside W → Type 0
@@ -92,7 +92,7 @@ module _ {W : Type 0} (sink : SinkOf W) (old : Inside W) where
         (
           takes.styling,
           (
-            ap (λ at. lined at old.lines.number old.lines.is_open old.lines.spare) takes.standing ∙ sym (inside_at_end-text (lined_of old) calls),
+            ap (λ at. lined at old.lines.number old.lines.is_open (lined_of old).spare) takes.standing ∙ sym (inside_at_end-text (lined_of old) calls),
             subst (λ t. Adds sink t (output_of old) (output_of after)) (sym (inside_from-text (styling_of old) (lined_of old) calls)) takes.added,
           ),
         ),

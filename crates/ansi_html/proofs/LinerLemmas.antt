@@ -1,7 +1,9 @@
 -- What a writer of HTML in lines does by a call, from what the writer within it does.
-use Rattle.std.proofs.Common.{◌≡◌, ◌<◌, ℕ, Bool, true, false, eqb, List, [], ◌∷◌, ◌++◌, codes, length, map, refl, sym, ap, ap₂, ◌∙◌, subst, append_assoc, append-nil, arith, length-append}
+use Rattle.std.proofs.Common.{◌≡◌, ◌<◌, ℕ, Bool, true, false, eqb, List, [], ◌∷◌, ◌++◌, ◌&&◌, eqb-true, codes, length, map, refl, sym, ap, ap₂, ◌∙◌, subst, append_assoc, append-nil, arith, length-append}
 use Rattle.std.specs.Prelude.{encode_utf8, if◌then◌else◌}
 use Rattle.std.specs.Str.{IsUtf8, chars, encode_utf8_all}
+use Rattle.std.proofs.lemmas.Bool.{and_parts}
+use Rattle.std.proofs.lemmas.List.{nil_from_length}
 use Rattle.std.proofs.lemmas.Str.{encodes-chars}
 use Rattle.anstyle_parse.specs.declared.io.devices.Sink.{Ghosts as SinkOf}
 use Rattle.anstyle_parse.specs.Stream.Call.{Call, print, execute}
@@ -11,12 +13,13 @@ use Rattle.anstyle_parse.proofs.Written.Output.{Adds-nil, Adds-append}
 use Rattle.anstyle_parse.proofs.Characters.Scalars.{length-encode-some}
 use Rattle.ansi_strip.specs.Strip.{is_layout, stripped_call}
 use Rattle.ansi_style.specs.Style.{plain}
-use Rattle.ansi_style.proofs.EqualityLemmas.{are_equal-refl}
+use Rattle.ansi_style.proofs.EqualityLemmas.{are_equal-refl, are_equal-same}
 use Rattle.ansi_html.specs.declared.scheme.Styling.{Styling}
 use Rattle.ansi_html.specs.declared.performer.HtmlWriter.{HtmlWriter}
 use Rattle.ansi_html.specs.declared.lines.LinesWriter.{LinesWriter}
 use Rattle.ansi_html.specs.Affordable.{feed_counts, earned, earned_by_text, is_paid, left_of}
-use Rattle.ansi_html.specs.Html.{no_element, element_end, Standing, after_text, is_executed, call_html, standing_after, html_from, standing_at_end}
+use Rattle.ansi_html.specs.Links.{is_none}
+use Rattle.ansi_html.specs.Html.{is_plain, Element, element, no_element, element_end, Standing, after_text, is_executed, call_html, standing_after, html_from, standing_at_end}
 use Rattle.ansi_html.specs.Lines.{line_end, Lined, lined, text_number, before_text, line_closing, ended, going_on, line_ended, after_feed, after_others, lined_call, lined_after, lined_from, lined_at_end}
 use Rattle.ansi_html.specs.Writer as writer
 use Rattle.ansi_html.specs.Liner.{output_of, styling_of, lined_of, TakesCall, TakesCalls}
@@ -26,6 +29,12 @@ use Rattle.ansi_html.proofs.HtmlLemmas.{after_text-some, call_html-other, standi
 -- what ends no element
 pub element_end-none : element_end no_element ≡ []
 element_end-none = ap (λ (plain_is : Bool). (if plain_is then [] else codes "</span>") ++ []) (are_equal-refl plain)
+
+-- an element of the plain style and of no link
+pub none-shown : (it : Element) → (is_plain it.style && is_none it.link) ≡ true → it ≡ no_element
+none-shown it none =
+    let both = and_parts (is_plain it.style) (is_none it.link) none in
+    ap₂ element (are_equal-same it.style plain both.0) (nil_from_length it.link (eqb-true (length it.link) 0 both.1))
 
 -- a call that has text and is no line feed
 module _ (styling : Styling) (it : Lined) (call : Call) (other : is_executed 0x0A call ≡ false) (some : 0 < length (stripped_call call)) where
@@ -153,7 +162,7 @@ module _ {W : Type 0} (sink : SinkOf W) (count : ℕ) (old begun : LinesWriter W
       → writer.Takes sink begun.html call html → TakesCall sink old call (record begun { html = html })
   TakesCall-text call other some counted html takes = record {
     styling = takes.styling ∙ begins.styling;
-    standing = ap (λ at. lined at begun.number begun.is_open begun.spare) takes.standing
+    standing = ap (λ at. lined at begun.number begun.is_open (lined_of begun).spare) takes.standing
         ∙ ap (λ (l : Lined). lined (standing_after call l.at) l.number l.is_open l.spare) begins.standing
         ∙ ap (λ n. lined (standing_after call it.at) (text_number it) true (earned n it.spare)) counted
         ∙ sym (lined_after-text (styling_of old) it call other some);
@@ -191,7 +200,7 @@ module _ {W : Type 0} (sink : SinkOf W) (count : ℕ) (old begun : LinesWriter W
       → writer.TakesAll sink begun.html (text_calls text) html → TakesCalls sink old (text_calls text) (record begun { html = html })
   TakesCalls-text text utf8 some counted html takes = record {
     styling = takes.styling ∙ begins.styling;
-    standing = ap (λ at. lined at begun.number begun.is_open begun.spare) takes.standing
+    standing = ap (λ at. lined at begun.number begun.is_open (lined_of begun).spare) takes.standing
         ∙ ap (λ (l : Lined). lined (standing_at_end l.at (text_calls text)) l.number l.is_open l.spare) begins.standing
         ∙ ap (λ n. lined (standing_at_end it.at (text_calls text)) (text_number it) true (earned n it.spare)) counted
         ∙ sym (lined_at_end-text (styling_of old) it text utf8 some);

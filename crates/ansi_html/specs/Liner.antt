@@ -6,6 +6,7 @@ use Rattle.anstyle_parse.specs.Stream.Call.{Call}
 use Rattle.anstyle_parse.specs.Io.Output.{Adds}
 use Rattle.ansi_html.specs.declared.scheme.Styling.{Styling}
 use Rattle.ansi_html.specs.declared.lines.LinesWriter.{LinesWriter}
+use Rattle.ansi_html.specs.Affordable.{earned}
 use Rattle.ansi_html.specs.Lines.{Lined, lined, lined_at_start, lined_call, lined_after, lined_from, lined_at_end, lined_end}
 use Rattle.ansi_html.specs.Writer as writer
 
@@ -17,7 +18,9 @@ abbrev pub styling_of : {W : Type 0} → LinesWriter W → Styling
 styling_of performer = writer.styling_of performer.html
 
 abbrev pub lined_of : {W : Type 0} → LinesWriter W → Lined
-lined_of performer = lined (writer.standing_of performer.html) performer.number performer.is_open performer.spare
+lined_of performer =
+    lined (writer.standing_of performer.html) performer.number performer.is_open
+    (earned performer.pending performer.spare)
 
 -- at the start, in this styling
 pub record IsNew {W : Type 0} (wanted : Styling) (performer : LinesWriter W) : Type 0 where

@@ -63,7 +63,8 @@ impl<W: Sink> Inside<W> {
     pub(crate) fn end_block(&mut self)
         ensures numbered { numbered_of self.new ≡ numbered_of self.old }
         ensures styling { styling_of self.new ≡ styling_of self.old }
-        ensures standing { lined_of self.new ≡ lined (ended (lined_of self.old).at) (lined_of self.old).number false (lined_of self.old).spare }
+        ensures standing { lined_of self.new
+            ≡ lined (ended (lined_of self.old).at) (lined_of self.old).number false (lined_of self.old).spare }
         ensures added { Adds W.Sink (element_end (lined_of self.old).at.shown ++ block_end)
             (output_of self.old) (output_of self.new) }
     {

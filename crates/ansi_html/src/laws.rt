@@ -44,7 +44,8 @@ pub fn blocks()
 
     // A block ends where a line ends: in each stand 500 whole lines, with their line feeds, and in the last one what is
     // left, which is some and at most as many. No markup comes in: of text each block is a fragment, as what `convert`
-    // writes is one, and of numbered lines each line in it is an element with its number, as `convert_lines` writes them.
+    // writes is one, and of numbered lines each line in it is an element with its number, as `convert_lines` writes
+    // them.
     ensures grammar { (numbered : Bool) (styling : Styling) (bytes : List ℕ) (calls : List Call)
         → AreCalls bytes calls → AreBlocks numbered styling 0 (blocked_html numbered styling calls) }
 

@@ -26,8 +26,10 @@ pub struct LinesWriter<W> {
     number: u64,
     /// That line is open.
     pub(crate) is_open: bool,
-    /// The bytes of HTML that links may still take to go on over line feeds.
+    /// The bytes of HTML that links may still take to go on over line feeds, as of when a link paid last.
     spare: usize,
+    /// The bytes of text since then, which are counted when a link pays: text comes far more often.
+    pending: usize,
 }
 
 impl<W: Sink> LinesWriter<W> {
@@ -44,6 +46,7 @@ impl<W: Sink> LinesWriter<W> {
             number: 0,
             is_open: false,
             spare: 0,
+            pending: 0,
         }
     }
 
@@ -56,7 +59,7 @@ impl<W: Sink> LinesWriter<W> {
             (earned count (lined_of self.old).spare) }
         ensures added { Adds W.Sink (before_text (lined_of self.old)) (output_of self.old) (output_of self.new) }
     {
-        self.spare = earned(count, self.spare);
+        self.pending = self.pending.saturating_add(count);
         if !self.is_open {
             self.number = next_number(self.number);
             self.is_open = true;
@@ -80,13 +83,18 @@ impl<W: Sink> LinesWriter<W> {
         ensures output { output_of self.new ≡ output_of self.old }
         ensures styling { styling_of self.new ≡ styling_of self.old }
         ensures standing { lined_of self.new
-            ≡ lined (going_on (is_paid (lined_of self.old).spare (lined_of self.old).at.selected.link) (lined_of self.old).at)
+            ≡ lined
+            (going_on (is_paid (lined_of self.old).spare (lined_of self.old).at.selected.link) (lined_of self.old).at)
             (lined_of self.old).number (lined_of self.old).is_open
             (left_of (lined_of self.old).spare (lined_of self.old).at.selected.link) }
     {
-        match left_of(self.spare, self.html.selected_link()) {
-            Some(left) => self.spare = left,
-            None => self.html.end_link(),
+        if !self.html.selected_link().is_empty() {
+            self.spare = earned(self.pending, self.spare);
+            self.pending = 0;
+            match left_of(self.spare, self.html.selected_link()) {
+                Some(left) => self.spare = left,
+                None => self.html.end_link(),
+            }
         }
     }
 }

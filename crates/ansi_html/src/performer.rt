@@ -1,13 +1,14 @@
 //! The performer that writes HTML.
-ghost use Rattle.std.specs.Prelude.{◌≡◌, ◌∷◌, ◌++◌, [], true, false, encode_utf8, codes, refl, length};
+ghost use Rattle.std.specs.Prelude.{◌≡◌, ◌&&◌, ◌∷◌, ◌++◌, [], true, false, encode_utf8, codes, refl, length};
 ghost use Rattle.anstyle_parse.specs.Io.Output.{Adds};
 ghost use Rattle.ansi_style.specs.Style.{plain};
 ghost use Rattle.ansi_html.specs.Classes.{class_names, classes_of};
 ghost use Rattle.ansi_html.specs.Grammar.{is_special, AreClear, BeginWithClear};
+ghost use Rattle.ansi_html.specs.Links.{is_none};
 ghost use Rattle.ansi_html.specs.ShownLinks.{has_next, shown_link, selected_link};
 ghost use Rattle.ansi_html.specs.Lines.{line_begin, line_end, ended, going_on};
 ghost use Rattle.ansi_html.specs.Blocks.{block_begin};
-ghost use Rattle.ansi_html.specs.Html.{line_break, beginning, value_of, attribute_text, span_begin, span_end, link_begin, link_end, element, element_begin, element_end, change, escaped, escaped_text};
+ghost use Rattle.ansi_html.specs.Html.{is_plain, line_break, beginning, value_of, attribute_text, span_begin, span_end, link_begin, link_end, element, element_begin, element_end, change, escaped, escaped_text};
 
 use crate::block::put_block_begin;
 use crate::chunks::{CHUNK, clear_count, specials};
@@ -172,14 +173,37 @@ impl<W: Sink> HtmlWriter<W> {
         ensures added { Adds W.Sink (element_end (standing_of self.old).shown ++ line_end)
             (output_of self.old) (output_of self.new) }
     {
-        put_end(&mut self.output, &self.shown, self.links.shown());
+        self.end_element();
         self.output.put(b"</span>");
-        self.has_selected = true;
-        self.shown = Style::default();
-        self.links.end_shown();
+    }
+
+    /// Ends the element that is open. Where none is, as mostly, nothing has to be told anew.
+    #[inline(always)]
+    fn end_element(&mut self)
+        ensures styling { styling_of self.new ≡ styling_of self.old }
+        ensures standing { standing_of self.new ≡ ended (standing_of self.old) }
+        ensures added { Adds W.Sink (element_end (standing_of self.old).shown)
+            (output_of self.old) (output_of self.new) }
+    {
+        if !self.shows_none() {
+            put_end(&mut self.output, &self.shown, self.links.shown());
+            self.has_selected = true;
+            self.shown = Style::default();
+            self.links.end_shown();
+        }
+    }
+
+    /// Whether the last text stands in no element.
+    #[inline(always)]
+    fn shows_none(&self) -> bool
+        ensures { result
+            ≡ (is_plain (standing_of self.now).shown.style && is_none (standing_of self.now).shown.link) }
+    {
+        is_plain(&self.shown) && self.links.shown().is_empty()
     }
 
     /// The link that is selected; empty where none is.
+    #[inline(always)]
     pub(crate) fn selected_link(&self) -> &[u8]
         ensures { result.now ≡ (standing_of self.now).selected.link }
     {

@@ -67,6 +67,10 @@ SAID_IN = {
         "the oldest has the number 0",
         "ansi_screen_draw, ansi_screen_update and ansi_screen_html also do where there is no memory, and ansi_screen_update where the sizes differ",
     ],
+    # (what safe text does not hide, and what it is not)
+    "docs/USING.md": ["what the log erases or writes over stands in it, unmarked. with --shown it is not there", "titles, targets of links and images are left out"],
+    "SECURITY.md": ["erases or writes over by sequences is in it, unmarked. that is not in --safe --shown", "titles, targets of links and images are in neither"],
+    "man/ansi2text.1": ["erases or writes over by sequences is in it as any other text", "what still shows is written at the end alone"],
     "bindings/python/src/ansi_proved/event.py": ["its first {MAX_OSC_PARTS} parts, of {MAX_OSC_RAW} bytes in all"],
 }
 # What a status means, by the constant of the code that is its number; and what an example says of the last two.

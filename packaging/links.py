@@ -4,7 +4,7 @@
 Usage: packaging/links.py FOLDER
 
 Each file of the folder, and of those in it, whose name ends in .md is written anew. A link to a file that is there stays, as one
-within the page and one to another site; of any other the text is left, and for a file of the source what it is called there.
+within the page and one to another site; of any other the text is left, and that it is of the source, or what it is called there.
 """
 
 import os
@@ -25,7 +25,7 @@ def led(text, at, folder):
         inside = os.path.relpath(there, folder)
         if SITE.match(target) or (not inside.startswith("..") and os.path.exists(there)):
             return found[0]
-        return shown if shown.strip("`") == inside else "%s (`%s` of the source)" % (shown, inside)
+        return "%s of the source" % shown if shown.strip("`") == inside else "%s (`%s` of the source)" % (shown, inside)
 
     return LINK.sub(link, text)
 

@@ -53,8 +53,8 @@ OF_WHEEL = $(PROGRAMS:%=bindings/python/programs/%)
 # the oldest C library that the wheel is for, which the programs ask for
 WHEEL_FOR = manylinux_2_34_x86_64
 # (pip takes what builds a wheel from this Python where that has it, and else from its index)
-WHEEL_BY = $(shell $(PYTHON) -c 'import setuptools as it; it.Distribution().get_command_class("bdist_wheel")' \
-    2>/dev/null && echo --no-build-isolation)
+WHEEL_BY = $(shell $(PYTHON) -c 'import setuptools as it; it.Distribution().get_command_class("bdist_wheel"); \
+    assert int(it.__version__.split(".")[0]) >= 61' 2>/dev/null && echo --no-build-isolation)
 
 BIN = $(DESTDIR)$(PREFIX)/bin
 LIB = $(DESTDIR)$(PREFIX)/lib
@@ -152,7 +152,7 @@ bindings/python/programs/%: $(BUILT)
 # (what is wanting is said before anything is built)
 wheel:
 	@$(HAS_KIT)
-	@PYTHON='$(PYTHON)' CC='$(CC)' packaging/wanting wheel
+	@PYTHON='$(PYTHON)' CC='$(CC)' HEAP='$(HEAP)' WHEEL_BY='$(WHEEL_BY)' packaging/wanting wheel
 	$(MAKE) made-wheel
 
 # (what an earlier wheel was made of would go into this one too)
@@ -165,7 +165,7 @@ made-wheel: library $(OF_WHEEL)
 # (a script of its own, which builds by this Makefile, installs into a folder and packs that)
 dist:
 	@$(HAS_KIT)
-	VERSION=$(VERSION) PYTHON='$(PYTHON)' CC='$(CC)' packaging/dist
+	VERSION=$(VERSION) PYTHON='$(PYTHON)' CC='$(CC)' HEAP='$(HEAP)' WHEEL_BY='$(WHEEL_BY)' packaging/dist
 
 # (what is not proved gets no further than a copy)
 test:

@@ -21,8 +21,14 @@ from lib import open_strings
 from lib.expected_pages import in_blocks
 
 NOBODY = 65534
-# how a heading has a name that stands there in other words
-HEADINGS = {"-": "standard input", "a<b>&\"'.log": "a&lt;b&gt;&amp;&quot;&#39;.log"}
+# how a heading has a name that stands there in other words; a title has all but the first so too
+HEADINGS = {
+    "-": "standard input",
+    "a<b>&\"'.log": "a&lt;b&gt;&amp;&quot;&#39;.log",
+    "a\x1b[31m b\u202e": "a&lt;U+001B&gt;[31m b&lt;U+202E&gt;",
+    "no\x1b[31m": "no&lt;U+001B&gt;[31m",
+    "no\x9b": "no&lt;U+009B&gt;",
+}
 PARTS = [b"\x1b[1mone\x1b[0m\n", b"tw\xe2\x82", b"\xaco\n\x1b[3", b"1mthree\r\n", b""]
 
 
@@ -71,7 +77,8 @@ class Rows:
         return self.run([*by, self.path, *self.words, *words], given, before=begin, **how)
 
     def of_each(self, *parts, names=()):
-        """What is written of these texts, one after another. In a page each of several has its file's name as a heading."""
+        """What is written of these texts, one after another. In a page each of several has its file's name as a heading, and a text that is
+        alone the last part of that name as the title."""
         around = self.run([self.path, *self.words], b"").out
         empty = self.run([self.path, *self.alone], b"").out
         written = [self.run([self.path, *self.alone], part).out for part in parts]
@@ -83,7 +90,9 @@ class Rows:
         at = around.index(b"<pre>\n")
         head, begin, end, tail = around[:at], b"<pre>\n", b"</pre>\n", around[at:].partition(b"</pre>\n")[2]
         if len(texts) == 1:
-            return head + begin + texts[0] + end + tail
+            last = os.path.basename(names[0]) if names else ""
+            title = b"Terminal output" if last in ("", "-") else HEADINGS.get(last, last).encode()
+            return head.replace(b"<title>Terminal output<", b"<title>%s<" % title) + begin + texts[0] + end + tail
         assert len(names) == len(texts), names
         headings = [b"<h2>%s</h2>\n" % HEADINGS.get(it, it).encode() for it in names]
         return head + b"".join(it + begin + text + end for it, text in zip(headings, texts)) + tail
@@ -154,7 +163,7 @@ def read_cases(rows):
         ]
     for words, parts in rows_of_words:
         ended = rows.ran(*words, given=given)
-        yield "the words %s" % " ".join(words), rows.differs(ended, out=rows.of_each(*parts, names=words))
+        yield "the words %s" % " ".join(words), rows.differs(ended, out=rows.of_each(*parts, names=[it for it in words if it != "--"]))
     faults = [("missing", errno.ENOENT), ("folder", errno.EISDIR), ("part0/below", errno.ENOTDIR), ("loop", errno.ELOOP)]
     faults.append(("a" * 300, errno.ENAMETOOLONG))
     for at, why in faults:
@@ -188,7 +197,7 @@ def read_cases(rows):
         why = b"%s: write failed: No space left on device (os error 28)\n" % rows.name.encode()
         ended = rows.ran(*rows.two, out=full)
         yield "files onto a full disk", rows.differs(ended, status=1, err=why)
-        yield "a fault that cannot be said", rows.differs(rows.ran("missing", err=full), status=1, out=rows.of_each(b""))
+        yield "a fault that cannot be said", rows.differs(rows.ran("missing", err=full), status=1, out=rows.of_each(b"", names=["missing"]))
     reading, writing = os.pipe()
     os.close(reading)
     yield "files into a closed pipe", rows.differs(rows.ran(*rows.two, out=writing), status=141)
@@ -214,24 +223,24 @@ def cut_off_cases(rows):
     texts = [part for part, _ in parts]
     for name, (part, begin) in zip(names, parts):
         err = b"" if begin is None else line % (rows.name.encode(), name.encode(), begin)
-        yield "%s, which ends in a string" % name, rows.differs(rows.ran(name), err=err, out=rows.of_each(part))
+        yield "%s, which ends in a string" % name, rows.differs(rows.ran(name), err=err, out=rows.of_each(part, names=[name]))
     yield "files that end in strings", rows.differs(rows.ran(*names), err=b"".join(said), out=rows.of_each(*texts, names=names))
     rows.put("a\nb", parts[0][0])
     err = rows.name.encode() + b': "a\\nb": ends inside a string that begins at byte 6\n'
-    yield "one whose name could drive a terminal", rows.differs(rows.ran("a\nb"), err=err, out=rows.of_each(parts[0][0]))
+    yield "one whose name could drive a terminal", rows.differs(rows.ran("a\nb"), err=err, out=rows.of_each(parts[0][0], names=["a\nb"]))
     for name in [*names, "a\nb"]:
         os.remove(rows.at(name))
 
 
 def name_cases(rows):
-    for at in ("-dash", "--shown", "-h", "a b", "ä€😀", "two\nlines"):
+    for at in ("-dash", "--shown", "-h", "a b", "ä€😀", "two\nlines", "a\x1b[31m b\u202e"):
         rows.put(at, PARTS[0])
-        yield "-- and the name %r" % at, rows.differs(rows.ran("--", at), out=rows.of_each(PARTS[0]))
-        yield "the name ./%r" % at, rows.differs(rows.ran("./" + at), out=rows.of_each(PARTS[0]))
+        yield "-- and the name %r" % at, rows.differs(rows.ran("--", at), out=rows.of_each(PARTS[0], names=[at]))
+        yield "the name ./%r" % at, rows.differs(rows.ran("./" + at), out=rows.of_each(PARTS[0], names=[at]))
         os.remove(rows.at(at))
     for at, shown in (("", b'""'), ("no\x1b[31m", b'"no\\u{1b}[31m"'), ("no\x9b", b'"no\\u{9b}"')):
         ended = rows.ran("--", at)
-        yield "the name %r is said as text" % at, rows.differs(ended, status=1, err=rows.said((shown, errno.ENOENT)), out=rows.of_each(b""))
+        yield "the name %r is said as text" % at, rows.differs(ended, status=1, err=rows.said((shown, errno.ENOENT)), out=rows.of_each(b"", names=[at]))
     why = "%s: a word is no UTF-8: a file with such a name is given by < (see %s --help)\n" % (rows.name, rows.name)
     rows.put(b"\xff".decode("utf-8", "surrogateescape"), PARTS[0])
     for words in ([b"\xff"], [b"--", b"\xff"], [b"-o", b"\xff"], [b"-o\xff"], [b"--output=\xff"], [b"part0", b"\xff"], [b"--help", b"\xff"]):
@@ -250,13 +259,13 @@ def name_cases(rows):
 
 def size_name_cases(rows):
     """Behind --shown a word of a size's form is its value, and any other names a file."""
-    for at in ("9x", "x9", "9X9", "9x9x9", "+9x9", "9x 9", "9x-9", "9", "９x９"):
+    for at in ("9x", "x9", "9X", "9x9x9", "9X9x9", "+9x9", "9x 9", "9x-9", "9", "９x９"):
         rows.put(at, PARTS[0])
-        yield "the name %s behind --shown" % at, rows.differs(rows.ran(at), out=rows.of_each(PARTS[0]))
+        yield "the name %s behind --shown" % at, rows.differs(rows.ran(at), out=rows.of_each(PARTS[0], names=[at]))
         os.remove(rows.at(at))
     rows.put("9x9", PARTS[0])
-    for words in (["--", "9x9"], ["./9x9"], ["9x9", "9x9"], ["9x9", "--", "9x9"], ["--shown=8x8", "9x9"]):
-        yield "the name 9x9 by %s" % words, rows.differs(rows.ran(*words), out=rows.of_each(PARTS[0]))
+    for words in (["--", "9x9"], ["./9x9"], ["9x9", "9x9"], ["9X9", "9x9"], ["9x9", "--", "9x9"], ["--shown=8x8", "9x9"]):
+        yield "the name 9x9 by %s" % words, rows.differs(rows.ran(*words), out=rows.of_each(PARTS[0], names=["9x9"]))
     yield "9x9 alone is no name", rows.differs(rows.ran("9x9", given=PARTS[3]), out=rows.of_each(PARTS[3]))
     os.remove(rows.at("9x9"))
 
@@ -302,9 +311,9 @@ def beginning_cases(rows):
         part = front + b' "width": 80}\r\n[0.1, "o", "text"]\r\n'
         part = part if front[:1] == b"{" else front + "text\n".encode("utf-16-le")
         rows.put("begun", part)
-        # (what is written of it comes first in another file, whose first line is empty)
-        rows.put("further", b"\x1b[m" + part)
-        wanted = rows.ran("further").out
+        # (what is written of it comes first in another file of this name, whose first line is empty)
+        rows.put("folder/begun", b"\x1b[m" + part)
+        wanted = rows.ran("folder/begun").out
         said = open_strings.begins(rows.name, "begun", part)
         yield "the beginning %r" % front, ("nothing is known of it" if number < 6 and not said else None) or rows.differs(rows.ran("begun"), err=said, out=wanted)
         said = open_strings.begins(rows.name, "standard input", part)
@@ -314,7 +323,7 @@ def beginning_cases(rows):
             out, err = program.communicate()
         found = (program.returncode, err) != (0, said)
         yield "the beginning %r, in pieces" % front, found and "status %s, %r and not %r" % (program.returncode, err, said)
-    for at in ("begun", "further"):
+    for at in ("begun", "folder/begun"):
         os.remove(rows.at(at))
 
 
@@ -338,7 +347,7 @@ def growing_cases(rows):
     with open(rows.at("log"), "ab") as file:
         file.write(b"another line\n" * 1000)
     out, err = program.communicate(timeout=60)
-    wanted = [rows.of_each(rows.read("log"))] + ([] if first else [rows.of_each(b"a line\n" * 100_000)])
+    wanted = [rows.of_each(rows.read("log"), names=["log"])] + ([] if first else [rows.of_each(b"a line\n" * 100_000, names=["log"])])
     why = None if first + out in wanted and (program.returncode, err) == (0, b"") else "it writes %d bytes" % len(out)
     yield "a file that grows", why
     os.remove(rows.at("log"))
@@ -370,11 +379,11 @@ def written_cases(rows):
         yield "it has its owner and group", found != owners and "they are %s, and not %s" % (found, owners)
         os.remove(rows.at("out"))
     rows.put("log", PARTS[0])
-    why = rows.differs(rows.ran("-o", "log", "log")) or (rows.read("log") != rows.of_each(PARTS[0]) and "it has %r" % rows.read("log"))
+    why = rows.differs(rows.ran("-o", "log", "log")) or (rows.read("log") != rows.of_each(PARTS[0], names=["log"]) and "it has %r" % rows.read("log"))
     yield "the output is the input", why
     os.symlink("log", rows.at("link"))
     rows.put("log", b"old\n")
-    why = rows.differs(rows.ran("-o", "link", "part0")) or (rows.read("log") != rows.of_each(PARTS[0]) and "it has %r" % rows.read("log"))
+    why = rows.differs(rows.ran("-o", "link", "part0")) or (rows.read("log") != rows.of_each(PARTS[0], names=["part0"]) and "it has %r" % rows.read("log"))
     yield "-o by the name of a link", why or (not os.path.islink(rows.at("link")) and "the link is gone")
     os.remove(rows.at("link"))
     os.remove(rows.at("log"))
@@ -384,7 +393,7 @@ def written_cases(rows):
     os.remove(rows.at("out"))
     os.remove(rows.at("out.0.new"))
     for words in (["-o", "-"], ["-o-"], ["-oout", "-o-"]):
-        yield "%s is standard output" % words, rows.differs(rows.ran(*words, "part0"), out=rows.of_each(PARTS[0]))
+        yield "%s is standard output" % words, rows.differs(rows.ran(*words, "part0"), out=rows.of_each(PARTS[0], names=["part0"]))
     yield "-o /dev/null", rows.differs(rows.ran("-o", "/dev/null", "part0")) or (not stat.S_ISCHR(os.stat("/dev/null").st_mode) and "it is gone")
     yield "no other file is left", rows.left() != before and "there are %s" % rows.left()
 
@@ -425,7 +434,7 @@ def device_cases(rows, by):
         rows.put("log", PARTS[0])
         with open(rows.at("out"), "ab") as out, open(rows.at(given or "part0"), "rb") as read:
             why = rows.differs(rows.ran(*words, given=read, out=out, by=by))
-        why = why or (rows.read("out") != rows.of_each(PARTS[0]) and "it has %r" % rows.read("out"))
+        why = why or (rows.read("out") != rows.of_each(PARTS[0], names=words) and "it has %r" % rows.read("out"))
         yield "%s, with the number of standard output on another device" % " ".join(words or ["standard input"]), why
         rows.clear_out()
     os.remove(rows.at("log"))
@@ -433,7 +442,7 @@ def device_cases(rows, by):
 
 def linked_cases(rows):
     """A link leads to what it names, be that a pipe or nothing so far; and a closed input or standard error is no file."""
-    whole = rows.of_each(PARTS[0])
+    whole = rows.of_each(PARTS[0], names=["part0"])
     os.symlink("/proc/self/fd/1", rows.at("link"))
     why = rows.differs(rows.ran("-o", "link", "part0"), out=whole)
     yield "-o by a link to standard output, a pipe", why or (not os.path.islink(rows.at("link")) and "the link is gone")
@@ -447,7 +456,7 @@ def linked_cases(rows):
     rows.put("cut", b"text\n\x1b]0;title")
     for closed in [2], [0, 2], [1, 2], [0, 1, 2]:
         why = rows.differs(rows.ran("-o", "out", "cut", before=lambda: [os.close(it) for it in closed]))
-        why = why or (rows.read("out") != rows.of_each(b"text\n") and "it has %r" % rows.read("out"))
+        why = why or (rows.read("out") != rows.of_each(b"text\n", names=["cut"]) and "it has %r" % rows.read("out"))
         yield "-o, and of the standard streams %s are closed" % closed, why
         rows.clear_out()
     os.remove(rows.at("cut"))
@@ -467,7 +476,7 @@ def same_file_cases(rows):
         yield "%s, to which the output is added" % " ".join(words or ["standard input"]), why or (rows.read("log") != PARTS[0] and "it is longer")
         os.remove(rows.at("link"))
     with open(rows.at("log"), "ab") as out:
-        why = rows.differs(rows.ran("-o", "out", "log", out=out)) or (rows.read("out") != rows.of_each(PARTS[0]) and "it has %r" % rows.read("out"))
+        why = rows.differs(rows.ran("-o", "out", "log", out=out)) or (rows.read("out") != rows.of_each(PARTS[0], names=["log"]) and "it has %r" % rows.read("out"))
     yield "a file that is standard output, which is not written to", why
     with open("/dev/null", "r+b") as it:
         yield "/dev/null is both", rows.differs(rows.ran(given=it, out=it))
@@ -596,7 +605,7 @@ def kept_cases(rows):
         before = rows.left()
         if old is not None:
             rows.put("out", old, 0o640)
-        beside, much = ["part0"] * rows.takes_many, len(rows.of_each(rows.read("much")))
+        beside, much = ["part0"] * rows.takes_many, len(rows.of_each(rows.read("much"), names=["much"]))
         faults = [
             ("an input that is not there", [*beside, "missing"], (b"missing", errno.ENOENT), None),
             ("an input that is not there, first", ["missing", *beside], (b"missing", errno.ENOENT), None),
@@ -610,7 +619,7 @@ def kept_cases(rows):
             why = why or (found != old and "it has %r" % found) or (set(rows.left()) - set(before) - {"out"} and "there are %s" % rows.left())
             yield "-o, %s: %s" % (name, "no file is made" if old is None else "the old one stays"), why
         ended = rows.ran("-o", "out", "much", before=functools.partial(limit, much))
-        why = rows.differs(ended) or (rows.read("out") != rows.of_each(rows.read("much")) and "it has another text")
+        why = rows.differs(ended) or (rows.read("out") != rows.of_each(rows.read("much"), names=["much"]) and "it has another text")
         yield "-o on a disk with room for all", why
         os.remove(rows.at("out"))
     os.remove(rows.at("much"))
@@ -624,7 +633,7 @@ def taken_cases(rows):
     why = rows.differs(rows.ran("-o", "out", "part0"), status=1, err=b"%s: out: entity already exists\n" % rows.name.encode())
     yield "-o beside a hundred files out.N.new", why or (os.path.exists(rows.at("out")) and "it is there")
     os.remove(rows.at(taken.pop()))
-    why = rows.differs(rows.ran("-o", "out", "part0")) or (rows.read("out") != rows.of_each(PARTS[0]) and "it has %r" % rows.read("out"))
+    why = rows.differs(rows.ran("-o", "out", "part0")) or (rows.read("out") != rows.of_each(PARTS[0], names=["part0"]) and "it has %r" % rows.read("out"))
     yield "-o beside all of them but the last", why
     yield "what stood there stays", [it for it in taken if rows.read(it) != b"of another\n"] and "it is another"
     rows.clear_out()

@@ -1,4 +1,5 @@
 pub mod Words
+pub mod Names
 pub mod Page
 pub mod Streams
 pub mod Parts

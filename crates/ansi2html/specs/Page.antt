@@ -15,6 +15,7 @@ use Rattle.ansi_html.specs.declared.scheme.Styling.TheVariants.{Inline, Classes}
 use Rattle.ansi_html.specs.Html.{escaped_text}
 use Rattle.ansi_html.specs.Stylesheet.{stylesheet}
 use Rattle.ansi2html.specs.declared.form.Said.{Said}
+use Rattle.ansi2html.specs.Names.{visible}
 
 -- lines, each with the line feed that ends it
 abbrev pub lines : List (List ℕ) → List ℕ
@@ -133,26 +134,26 @@ page_head styling scheme said =
 abbrev pub page_tail : List ℕ
 page_tail = lines (codes "</pre>" ∷ codes "</body>" ∷ codes "</html>" ∷ [])
 
--- Where a page has several files, each has a heading (HTML, 4.3.6): its name as it was given, of which the bytes with a
--- meaning in HTML are references. That of standard input is in words.
+-- Where a page has several files, each has a heading (HTML, 4.3.6): its name, of which what shows nothing is written
+-- visibly, and the bytes with a meaning in HTML are references. That of standard input is in words.
 abbrev pub name_shown : (name : List ℕ) → List ℕ
 name_shown name = if bytes_eq name (codes "-") then codes "standard input" else name
 
-abbrev pub heading : (name : List ℕ) → List ℕ
-heading name = codes "<h2>" ++ (escaped_text (name_shown name) ++ lines (codes "</h2>" ∷ []))
+abbrev pub heading : (shown : List ℕ) → List ℕ
+heading shown = codes "<h2>" ++ (escaped_text shown ++ lines (codes "</h2>" ∷ []))
 
 -- The head of a page stands before its first file alone, and headings where there are several.
 abbrev pub head_of : (is_first : Bool) → Styling → Scheme → Said → List ℕ
 head_of is_first styling scheme said = if is_first then page_head styling scheme said else []
 
-abbrev pub heading_of : (is_one_of_many : Bool) → (name : List ℕ) → List ℕ
-heading_of is_one_of_many name = if is_one_of_many then heading name else []
+abbrev pub heading_of : (is_one_of_many : Bool) → (shown : List ℕ) → List ℕ
+heading_of is_one_of_many shown = if is_one_of_many then heading shown else []
 
 -- What stands before the text of a file of a page, and after it; files are numbered from 0.
 abbrev pub before_part : Styling → Scheme → Said → (count number : ℕ) → (name : List ℕ) → List ℕ
 before_part styling scheme said count number name =
     head_of (nat_eq number 0) styling scheme said
-    ++ (heading_of (nat_lt 1 count) name ++ before_text (wraps_by_class said))
+    ++ (heading_of (nat_lt 1 count) (visible (name_shown name)) ++ before_text (wraps_by_class said))
 
 abbrev pub after_part : (count number : ℕ) → List ℕ
 after_part count number = if nat_eq (number + 1) count then page_tail else after_text

@@ -5,6 +5,7 @@ ghost use Rattle.ansi2html.specs.Page.{page_colors, named_scheme, page_rules, nu
 ghost use Rattle.ansi_html.specs.Html.{escaped_text};
 ghost use Rattle.ansi_html.specs.Reader.{Attributes, Place, in_value, seen_from};
 
+use crate::names::visible;
 use ansi_html::{Scheme, Styling, put_stylesheet, put_text};
 use anstyle_parse::io::{Fault, FromWrite, Output, Sink};
 use std::alloc::{AllocError, Global};
@@ -282,21 +283,21 @@ fn name_shown(name: &str) -> &str
     }
 }
 
-/// Writes the heading of a file.
-fn put_heading<W: Sink>(output: &mut Output<W>, name: &str)
-    ensures { Adds W.Sink (heading name.now) output.old output.new }
+/// Writes the heading of a file, whose name is shown so.
+fn put_heading<W: Sink>(output: &mut Output<W>, shown: &str)
+    ensures { Adds W.Sink (heading shown.now) output.old output.new }
 {
     output.put(BEFORE_NAME);
-    put_text(output, name_shown(name));
+    put_text(output, shown);
     output.put(AFTER_NAME);
 }
 
 /// The same, where it is one of many.
-fn put_heading_of<W: Sink>(output: &mut Output<W>, is_one_of_many: bool, name: &str)
-    ensures { Adds W.Sink (heading_of is_one_of_many name.now) output.old output.new }
+fn put_heading_of<W: Sink>(output: &mut Output<W>, is_one_of_many: bool, shown: &str)
+    ensures { Adds W.Sink (heading_of is_one_of_many shown.now) output.old output.new }
 {
     if is_one_of_many {
-        put_heading(output, name);
+        put_heading(output, shown);
     }
 }
 
@@ -313,7 +314,7 @@ impl Place {
     /// What stands before the text of the file of this name: before the first one the head of the page, with these
     /// words, in which `& < > " '` and carriage returns are character references, and with the colours of the scheme.
     /// Where no stylesheet is named, the rules are in the head, with those of the classes where styles are said by
-    /// classes. Where there are several files, each name is a heading, escaped likewise. It takes memory.
+    /// classes. Where there are several files, each name is a heading, visible and escaped likewise. It takes memory.
     pub fn before(
         self,
         alloc: Global,
@@ -325,9 +326,10 @@ impl Place {
         ensures { IfOk result (λ text. text.items
             ≡ before_part styling scheme said.entry self.count self.number name.now) }
     {
+        let shown = visible(alloc, name_shown(name))?;
         let mut output = Output::new(FromWrite::new(Vec::new(alloc)));
         put_head_once(&mut output, self.number == 0, styling, scheme, said);
-        put_heading_of(&mut output, self.count > 1, name);
+        put_heading_of(&mut output, self.count > 1, shown.as_str());
         output.put(before_text(wraps_by_class(said)));
         let (writer, answer) = output.finish();
         match answer {

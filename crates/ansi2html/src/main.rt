@@ -3,6 +3,7 @@
 #![tactic(auto)]
 
 mod form;
+mod names;
 mod parts;
 mod streams;
 mod words;
@@ -12,11 +13,12 @@ ghost use Rattle.screen_text.specs.Recording.{CanBeShown};
 
 use ansi_html::{Scheme, Styling};
 use command_line::{
-    OUTPUT, Target, answered, asked_of, buffered, failed, file_name, given_line, have_failed,
-    inputs, is_folder, misused, outputs_in, value_of, wrong_size,
+    OUTPUT, Target, answered, asked_of, buffered, failed, given_line, have_failed, inputs,
+    is_folder, misused, outputs_in, value_of, wrong_size,
 };
 use each_source::{Stopped, write_each};
-use form::{Form, Said, TITLE, write_stylesheet};
+use form::{Form, Said, write_stylesheet};
+use names::title_of;
 use parts::{Frame, one_has_failed, parts, write_parts};
 use screen_html::{BlockRows, HtmlRows};
 use screen_text::{SHOWN, ShownSize, ShownWriter, screen_size};
@@ -25,7 +27,7 @@ use streams::{Blocking, BlockingUrls, Converting, ConvertingUrls, Lining, Lining
 use words::{
     HELP, NO_FILES, NO_LANGUAGE, NOT_OF_A_PAGE, NOT_SHOWN, ONE_FILE, OPTIONS, PAGES,
     URLS_NOT_SHOWN, asks_for_lines, asks_for_stylesheet, asks_for_urls, asks_to_scroll, form,
-    language, says_of_a_page, scheme, stylesheet_address, styling, title, title_or,
+    language, says_of_a_page, scheme, stylesheet_address, styling, title_or,
 };
 
 /// The name at the front of what the program says of failures.
@@ -71,9 +73,13 @@ fn main(rt: HostRuntime) -> ExitCode {
     let Some(language) = language(options) else {
         return misused(&rt, NO_LANGUAGE);
     };
+    let names = line.files.as_slice();
+    let Ok(named) = title_of(rt.alloc(), names) else {
+        return failed(&rt, PROGRAM, "out of memory");
+    };
     let said = Said {
         language,
-        title: title(options),
+        title: title_or(options, named.as_str()),
         stylesheet: stylesheet_address(options),
         has_lines,
         scrolls: asks_to_scroll(options),
@@ -89,7 +95,6 @@ fn main(rt: HostRuntime) -> ExitCode {
         size,
         has_urls,
     };
-    let names = line.files.as_slice();
     match folder {
         Some(folder) => pages(rt, options, names, folder, how),
         None => written(rt, names, output, how),
@@ -123,8 +128,11 @@ fn pages(
     };
     let mut status = ExitCode::SUCCESS;
     for (files, path) in names.chunks(1).zip(paths.iter()) {
+        let Ok(named) = title_of(rt.alloc(), files) else {
+            return failed(&rt, PROGRAM, "out of memory");
+        };
         let said = Said {
-            title: title_or(options, page_name(files)),
+            title: title_or(options, named.as_str()),
             ..how.frame.said
         };
         let frame = Frame { said, ..how.frame };
@@ -134,14 +142,6 @@ fn pages(
         }
     }
     status
-}
-
-/// The title of the page of a file, where none is given: the last part of its name.
-fn page_name(files: &[String]) -> &str {
-    match files {
-        [file] => file_name(file.as_str()).unwrap_or(TITLE),
-        _ => TITLE,
-    }
 }
 
 /// Writes these files, as one page or fragment.

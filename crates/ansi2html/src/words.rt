@@ -2,9 +2,9 @@
 ghost use Rattle.std.specs.Prelude.{◌≡◌, codes, map, string_bytes, option_copied, unwrap_or};
 ghost use Rattle.std.specs.List.{list_all};
 ghost use Rattle.command_line.specs.Options.{last_value};
-ghost use Rattle.ansi2html.specs.Words.{form_after, form_of, is_of_a_page, says_of_a_page, scheme_after, scheme_of, styling_of, asks_for_stylesheet, default_title, is_tag_byte, is_tag, language_of, asks_for_lines, asks_to_scroll, asks_for_urls};
+ghost use Rattle.ansi2html.specs.Words.{form_after, form_of, is_of_a_page, says_of_a_page, scheme_after, scheme_of, styling_of, asks_for_stylesheet, is_tag_byte, is_tag, language_of, asks_for_lines, asks_to_scroll, asks_for_urls};
 
-use crate::form::{Form, LANGUAGE, TITLE};
+use crate::form::{Form, LANGUAGE};
 use ansi_html::{Scheme, Styling};
 use command_line::{OUTPUT, Outputs, has_word, value_of};
 use screen_text::SHOWN;
@@ -89,7 +89,8 @@ next word, as in --title TEXT.
                           what is written without this too, unless --fragment stands
                           before; so does the word page (a file of that name is ./page)
   --fragment              write the text alone, for a <pre> and a newline of another page
-  --title=TEXT            write a whole page with this title
+  --title=TEXT            write a whole page with this title, in place of its one file's
+                          name
   --css=ADDRESS           write a whole page with no rules of its own, but the
                           stylesheet at this address
   --lang=TAG              write a whole page in this language (en)
@@ -117,7 +118,7 @@ next word, as in --title TEXT.
                           whole or as it was, and may be one that is read. Where its
                           name ends in /, as in -o pages/, it is a folder, made if it
                           is not there, in which each file has a page of its own:
-                          a.log the page pages/a.log.html, with the title a.log
+                          a.log the page pages/a.log.html
   -h, --help              say this
   --version               say which version it is
 
@@ -218,13 +219,6 @@ pub fn title_or<'a>(words: &'a [String], other: &'a str) -> &'a str
     ensures { result.now ≡ unwrap_or (last_value (codes "--title=") (map string_bytes words.now)) other.now }
 {
     value_of(words, TITLED).unwrap_or(other)
-}
-
-/// The title of the page: the last that the words say.
-pub fn title(words: &[String]) -> &str
-    ensures { result.now ≡ unwrap_or (last_value (codes "--title=") (map string_bytes words.now)) default_title }
-{
-    title_or(words, TITLE)
 }
 
 /// The address of the stylesheet that a page has in place of rules: the last that the words say, if any.

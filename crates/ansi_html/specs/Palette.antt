@@ -33,16 +33,18 @@ shaded light dark fixed = record { light = rgb_of light; dark = rgb_of dark; fix
 abbrev pub alike : Rgb → Shades
 alike color = record { light = color; dark = color; fixed = color }
 
--- Light and dark: after the terminal palette of GitHub's Primer, where bright blue, magenta, cyan
--- and white on light pages and both blacks on dark ones are moved away from the page, so that
--- each is read there as it is (tests/contrast). Fixed: xterm's palette (its file XTerm-color).
+-- Light and dark: after the terminal palette of GitHub's Primer. Its yellow on light pages is brown, and its magenta
+-- violet: so yellow is `yellow.5` of its scale, and bright yellow less red; magenta is VS Code's on light pages and its
+-- bright one on dark ones (terminalColorRegistry.ts), and bright magenta is xterm's magenta and its number 213. Bright
+-- blue, cyan and white on light pages and both blacks on dark ones are moved away from the page, so that each is read
+-- there as it is (tests/contrast). Fixed: xterm's palette (its file XTerm-color).
 abbrev pub named_shades : Hue → Shades
 named_shades Black = shaded 0x24292F 0x7E8691 0x000000
 named_shades Red = shaded 0xCF222E 0xFF7B72 0xCD0000
 named_shades Green = shaded 0x116329 0x3FB950 0x00CD00
-named_shades Yellow = shaded 0x4D2D00 0xD29922 0xCDCD00
+named_shades Yellow = shaded 0x9A6700 0xD29922 0xCDCD00
 named_shades Blue = shaded 0x0969DA 0x58A6FF 0x0000EE
-named_shades Magenta = shaded 0x8250DF 0xBC8CFF 0xCD00CD
+named_shades Magenta = shaded 0xBC05BC 0xD670D6 0xCD00CD
 named_shades Cyan = shaded 0x1B7C83 0x39C5CF 0x00CDCD
 named_shades White = shaded 0x6E7781 0xB1BAC4 0xE5E5E5
 
@@ -50,9 +52,9 @@ abbrev pub bright_shades : Hue → Shades
 bright_shades Black = shaded 0x57606A 0x8B949E 0x7F7F7F
 bright_shades Red = shaded 0xA40E26 0xFFA198 0xFF0000
 bright_shades Green = shaded 0x1A7F37 0x56D364 0x00FF00
-bright_shades Yellow = shaded 0x633C01 0xE3B341 0xFFFF00
+bright_shades Yellow = shaded 0x867000 0xE3B341 0xFFFF00
 bright_shades Blue = shaded 0x0550AE 0x79C0FF 0x5C5CFF
-bright_shades Magenta = shaded 0x6639BA 0xD2A8FF 0xFF00FF
+bright_shades Magenta = shaded 0xCD00CD 0xFF87FF 0xFF00FF
 bright_shades Cyan = shaded 0x0E6B73 0x56D4DD 0x00FFFF
 bright_shades White = shaded 0x656D76 0xFFFFFF 0xFFFFFF
 

@@ -60,9 +60,9 @@ fn named_shades(hue: Hue) -> Shades
         Hue::Black => shaded(0x24292F, 0x7E8691, 0x000000),
         Hue::Red => shaded(0xCF222E, 0xFF7B72, 0xCD0000),
         Hue::Green => shaded(0x116329, 0x3FB950, 0x00CD00),
-        Hue::Yellow => shaded(0x4D2D00, 0xD29922, 0xCDCD00),
+        Hue::Yellow => shaded(0x9A6700, 0xD29922, 0xCDCD00),
         Hue::Blue => shaded(0x0969DA, 0x58A6FF, 0x0000EE),
-        Hue::Magenta => shaded(0x8250DF, 0xBC8CFF, 0xCD00CD),
+        Hue::Magenta => shaded(0xBC05BC, 0xD670D6, 0xCD00CD),
         Hue::Cyan => shaded(0x1B7C83, 0x39C5CF, 0x00CDCD),
         Hue::White => shaded(0x6E7781, 0xB1BAC4, 0xE5E5E5),
     }
@@ -76,9 +76,9 @@ fn bright_shades(hue: Hue) -> Shades
         Hue::Black => shaded(0x57606A, 0x8B949E, 0x7F7F7F),
         Hue::Red => shaded(0xA40E26, 0xFFA198, 0xFF0000),
         Hue::Green => shaded(0x1A7F37, 0x56D364, 0x00FF00),
-        Hue::Yellow => shaded(0x633C01, 0xE3B341, 0xFFFF00),
+        Hue::Yellow => shaded(0x867000, 0xE3B341, 0xFFFF00),
         Hue::Blue => shaded(0x0550AE, 0x79C0FF, 0x5C5CFF),
-        Hue::Magenta => shaded(0x6639BA, 0xD2A8FF, 0xFF00FF),
+        Hue::Magenta => shaded(0xCD00CD, 0xFF87FF, 0xFF00FF),
         Hue::Cyan => shaded(0x0E6B73, 0x56D4DD, 0x00FFFF),
         Hue::White => shaded(0x656D76, 0xFFFFFF, 0xFFFFFF),
     }

@@ -185,12 +185,13 @@ impl<W: Sink> HtmlWriter<W> {
         ensures added { Adds W.Sink (element_end (standing_of self.old).shown)
             (output_of self.old) (output_of self.new) }
     {
-        if !self.shows_none() {
-            put_end(&mut self.output, &self.shown, self.links.shown());
-            self.has_selected = true;
-            self.shown = Style::default();
-            self.links.end_shown();
+        if self.shows_none() {
+            return;
         }
+        put_end(&mut self.output, &self.shown, self.links.shown());
+        self.has_selected = true;
+        self.shown = Style::default();
+        self.links.end_shown();
     }
 
     /// Whether the last text stands in no element.

@@ -8,27 +8,27 @@ use Rattle.ansi_html.proofs.LinerLemmas.{element_end-none, none-shown}
 use Rattle.ansi_html.proofs.SelectedLemmas.{selected-kept}
 use Rattle.ansi_html.proofs.performer.HtmlWriter.end_element.Goals as goal
 
-pub returns-then-not-shows_none-clause-standing : goal.returns-then-not-shows_none-clause-standing
-returns-then-not-shows_none-clause-standing g c =
+pub returns-clause-standing : goal.returns-clause-standing
+returns-clause-standing g c =
     let before = c.args.self.now in
     ap₂ (λ (one other : Element). record { shown = one; selected = other; returned = before.returned })
     (ap₂ element c.default-self.ensures c.end_shown.ensures.shown)
     (ap (λ (link : List ℕ). element before.selected link) c.end_shown.ensures.selected ∙ sym (selected-kept before))
 
-pub returns-then-not-shows_none-clause-added : goal.returns-then-not-shows_none-clause-added
-returns-then-not-shows_none-clause-added g c =
+pub returns-clause-added : goal.returns-clause-added
+returns-clause-added g c =
     let before = c.args.self.now in
     subst (λ (link : List ℕ). Adds g.W.Sink (element_end (element before.shown link)) (output_of before) c.put_end.new.output) c.shown.ensures c.put_end.ensures
 
-pub returns-else-not-shows_none-clause-standing : goal.returns-else-not-shows_none-clause-standing
-returns-else-not-shows_none-clause-standing g c =
+pub returns-then-shows_none-clause-standing : goal.returns-then-shows_none-clause-standing
+returns-then-shows_none-clause-standing g c =
     let at = standing_of c.args.self.now in
     ap (λ (one : Element). record { shown = one; selected = at.selected; returned = at.returned })
-    (none-shown at.shown (sym c.shows_none.ensures ∙ c.if-not-shows_none.false))
+    (none-shown at.shown (sym c.shows_none.ensures ∙ c.if-shows_none.true))
 
-pub returns-else-not-shows_none-clause-added : goal.returns-else-not-shows_none-clause-added
-returns-else-not-shows_none-clause-added g c =
+pub returns-then-shows_none-clause-added : goal.returns-then-shows_none-clause-added
+returns-then-shows_none-clause-added g c =
     let before = c.args.self.now in
-    let none = none-shown (standing_of before).shown (sym c.shows_none.ensures ∙ c.if-not-shows_none.false) in
+    let none = none-shown (standing_of before).shown (sym c.shows_none.ensures ∙ c.if-shows_none.true) in
     subst (λ (t : List ℕ). Adds g.W.Sink t (output_of before) (output_of before))
     (sym (ap element_end none ∙ element_end-none)) (Adds-nil g.W.Sink (output_of before))

@@ -94,7 +94,7 @@ PHRASES = {
     ],
     "man/ansi2screen.1": [
         STATUSES[0], STATUSES[3], "was said. {FAILED} the file", "shown. {MISUSED} an option", "to show sgr {hidden}", "a character that is broken is u+fffd", "--size 80x24",
-        "from {MIN_COLUMNS}x{MIN_ROWS} to {MAX_COLUMNS}x{MAX_ROWS}. where", "and else {COLUMNS}x{ROWS}.", 'columns="120" lines="40"', "links (osc 8) and whether",
+        "from {MIN_COLUMNS}x{MIN_ROWS} to {MAX_COLUMNS}x{MAX_ROWS}, also with an x for the x. where", "and else {COLUMNS}x{ROWS}.", 'columns="120" lines="40"', "links (osc 8) and whether",
         "each read, of {PIECE} bytes at most", "looked at, {MOST_FRONT} bytes",
     ],
     "man/ansi2text.1": [

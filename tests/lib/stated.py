@@ -69,7 +69,7 @@ SAID_IN = {
     ],
     # (what safe text does not hide, and what it is not)
     "docs/USING.md": ["what the log erases or writes over stands in it, unmarked. with --shown it is not there", "titles, targets of links and images are left out"],
-    "SECURITY.md": ["erases or writes over by sequences is in it, unmarked. that is not in --safe --shown", "titles, targets of links and images are in neither"],
+    "SECURITY.md": ["erases or writes over by sequences is in it, unmarked; --safe --shown writes what a terminal showed", "titles, targets of links and images are in neither"],
     "man/ansi2text.1": ["erases or writes over by sequences is in it as any other text", "what still shows is written at the end alone"],
     "bindings/python/src/ansi_proved/event.py": ["its first {MAX_OSC_PARTS} parts, of {MAX_OSC_RAW} bytes in all"],
 }

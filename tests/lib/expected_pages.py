@@ -89,6 +89,10 @@ pre [id^=L] { display: block; padding-left: 9ch; }
 pre [id^=L]:target { box-shadow: inset 4px 0 #bf8700; }
 [data-line] { float: left; margin-left: -8ch; min-width: 7ch; text-align: right; text-decoration: none; %s }
 [data-line]::before { content: attr(data-line); }
+@media (max-width: 40em) {
+pre [id^=L] { padding-left: 6ch; }
+[data-line] { margin-left: -6ch; min-width: 5ch; }
+}
 """
 NUMBER_COLORS = {
     b"both": b"color: #59636e; color: light-dark(#59636e, #9198a1);",

@@ -69,7 +69,7 @@ page_rules Classes scheme = stylesheet scheme
 
 -- How lines look, of which each is an element in the <pre>: a block that leaves room for its number, with a bar where
 -- it is linked to, and the number, which is drawn of an attribute, so that it is no part of the text. Its colour has
--- WCAG's contrast of 4.5:1 on the page's ground.
+-- WCAG's contrast of 4.5:1 on the page's ground. On a narrow page (Media Queries 4, 4.1) there is less room for it.
 abbrev pub number_color : Scheme → List ℕ
 number_color Light = codes "color: #59636e;"
 number_color Dark = codes "color: #9198a1;"
@@ -81,7 +81,11 @@ line_rules scheme =
     codes "pre [id^=L]:target { box-shadow: inset 4px 0 #bf8700; }" ∷ [])
     ++ (codes "[data-line] { float: left; margin-left: -8ch; min-width: 7ch; text-align: right; text-decoration: none; "
     ++ (number_color scheme ++ lines (codes " }" ∷
-    codes "[data-line]::before { content: attr(data-line); }" ∷ [])))
+    codes "[data-line]::before { content: attr(data-line); }" ∷
+    codes "@media (max-width: 40em) {" ∷
+    codes "pre [id^=L] { padding-left: 6ch; }" ∷
+    codes "[data-line] { margin-left: -6ch; min-width: 5ch; }" ∷
+    codes "}" ∷ [])))
 
 abbrev pub page_lines : (has_lines : Bool) → Scheme → List ℕ
 page_lines has_lines scheme = if has_lines then line_rules scheme else []

@@ -163,6 +163,10 @@ pre [id^=L]:target { box-shadow: inset 4px 0 #bf8700; }
 /// The rules of lines after it.
 const AFTER_NUMBER_COLOR: &[u8] = br#" }
 [data-line]::before { content: attr(data-line); }
+@media (max-width: 40em) {
+pre [id^=L] { padding-left: 6ch; }
+[data-line] { margin-left: -6ch; min-width: 5ch; }
+}
 "#;
 
 /// Writes the rules of lines.

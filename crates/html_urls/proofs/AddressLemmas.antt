@@ -1,43 +1,43 @@
 -- How long an address is, and what begins a scheme.
-use Rattle.std.proofs.Common.{◌≡◌, ◌<◌, ◌≤◌, ◌-◌, ℕ, zero, suc, Bool, true, false, List, [], ◌∷◌, ◌++◌, ◌⊎◌, inl, inr, length, take, refl, sym, ap, ◌∙◌, subst, take-append-drop, length-take, arith}
+use Rattle.std.proofs.Common.{◌≡◌, ◌<◌, ◌≤◌, ◌-◌, ℕ, zero, suc, Bool, true, false, List, [], ◌∷◌, ◌++◌, ◌⊎◌, inl, inr, length, take, drop, refl, sym, ap, ◌∙◌, subst, take-append-drop, length-take, arith}
 use Rattle.std.specs.Prelude.{nat_lt, if◌then◌else◌}
 use Rattle.std.proofs.lemmas.Bool.{ltb-true, ltb-false}
-use Rattle.html_urls.specs.Addresses.{last_byte, ends_behind, address_length, address_of, behind_address, IsAddressOf}
+use Rattle.html_urls.specs.Addresses.{last_of, goes_past, address_length, address_of, behind_address, IsAddressOf}
 
-pub address_length-less : (n : ℕ) (text : List ℕ) → 0 < n → ends_behind (take n text) ≡ true → address_length n text ≡ address_length (n - 1) text
+pub address_length-less : (n : ℕ) (text : List ℕ) → 0 < n → goes_past (take n text) (drop n text) ≡ true → address_length n text ≡ address_length (n - 1) text
 address_length-less zero text some behind = absurd (omega (arith, some))
 address_length-less (suc n) text some behind =
     let one : n ≡ suc n - 1 = omega arith in
     ap (λ (t : Bool). if t then address_length n text else suc n) behind ∙ ap (λ k. address_length k text) one
 
-pub address_length-whole : (n : ℕ) (text : List ℕ) → 0 < n → ends_behind (take n text) ≡ false → address_length n text ≡ n
+pub address_length-whole : (n : ℕ) (text : List ℕ) → 0 < n → goes_past (take n text) (drop n text) ≡ false → address_length n text ≡ n
 address_length-whole zero text some behind = absurd (omega (arith, some))
 address_length-whole (suc n) text some behind = ap (λ (t : Bool). if t then address_length n text else suc n) behind
 
-pub last_byte-is : (front : List ℕ) (b : ℕ) → last_byte (front ++ b ∷ []) ≡ b
-last_byte-is [] b = refl
-last_byte-is (x ∷ []) b = refl
-last_byte-is (x ∷ y ∷ front) b = last_byte-is (y ∷ front) b
+pub last_of-is : (front : List ℕ) (b : ℕ) → last_of (front ++ b ∷ []) ≡ b
+last_of-is [] b = refl
+last_of-is (x ∷ []) b = refl
+last_of-is (x ∷ y ∷ front) b = last_of-is (y ∷ front) b
 
 -- the longest front of so many bytes that ends well
 record IsCut (count : ℕ) (run : List ℕ) (k : ℕ) : Type 0 where
   most : k ≤ count
-  ends : (k ≡ 0) ⊎ (ends_behind (take k run) ≡ false)
-  longest : (n : ℕ) → k < n → n ≤ count → ends_behind (take n run) ≡ true
+  ends : (k ≡ 0) ⊎ (goes_past (take k run) (drop k run) ≡ false)
+  longest : (n : ℕ) → k < n → n ≤ count → goes_past (take n run) (drop n run) ≡ true
 
-one-more : (count k : ℕ) (run : List ℕ) → IsCut count run k → ends_behind (take (suc count) run) ≡ true
-    → (n : ℕ) → k < n → n ≤ suc count → (t : Bool) → nat_lt count n ≡ t → ends_behind (take n run) ≡ true
+one-more : (count k : ℕ) (run : List ℕ) → IsCut count run k → goes_past (take (suc count) run) (drop (suc count) run) ≡ true
+    → (n : ℕ) → k < n → n ≤ suc count → (t : Bool) → nat_lt count n ≡ t → goes_past (take n run) (drop n run) ≡ true
 one-more count k run cut behind n above below true over =
     let past = ltb-true count n over in
     let same : suc count ≡ n = omega (arith, past, below) in
-    subst (λ (m : ℕ). ends_behind (take m run) ≡ true) same behind
+    subst (λ (m : ℕ). goes_past (take m run) (drop m run) ≡ true) same behind
 one-more count k run cut behind n above below false within = cut.longest n above (ltb-false count n within)
 
 cut-of : (count : ℕ) (run : List ℕ) → IsCut count run (address_length count run)
 cut-of zero run = record { most = omega arith; ends = inl refl; longest = λ n above below. absurd (omega (arith, above, below)) }
-cut-of (suc count) run = by (cut-of count run) (ends_behind (take (suc count) run)) refl
+cut-of (suc count) run = by (cut-of count run) (goes_past (take (suc count) run) (drop (suc count) run)) refl
   where
-    by : IsCut count run (address_length count run) → (t : Bool) → ends_behind (take (suc count) run) ≡ t
+    by : IsCut count run (address_length count run) → (t : Bool) → goes_past (take (suc count) run) (drop (suc count) run) ≡ t
         → IsCut (suc count) run (if t then address_length count run else suc count)
     by cut true behind = record {
       most = let most = cut.most in omega (arith, most);
@@ -46,7 +46,8 @@ cut-of (suc count) run = by (cut-of count run) (ends_behind (take (suc count) ru
     }
     by cut false well = record { most = omega arith; ends = inr well; longest = λ n above below. absurd (omega (arith, above, below)) }
 
-none-taken : (run : List ℕ) (k : ℕ) → (k ≡ 0) ⊎ (ends_behind (take k run) ≡ false) → (take k run ≡ []) ⊎ (ends_behind (take k run) ≡ false)
+none-taken : (run : List ℕ) (k : ℕ) → (k ≡ 0) ⊎ (goes_past (take k run) (drop k run) ≡ false)
+    → (take k run ≡ []) ⊎ (goes_past (take k run) (drop k run) ≡ false)
 none-taken run k (inl none) = inl (ap (λ (m : ℕ). take m run) none)
 none-taken run k (inr well) = inr well
 

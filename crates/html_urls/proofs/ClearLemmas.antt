@@ -12,11 +12,11 @@ use Rattle.anstyle_parse.proofs.Bytes.Passing.{EachIs-parts}
 use Rattle.anstyle_parse.proofs.Characters.Encoding.{encode_one}
 use Rattle.anstyle_parse.proofs.Characters.Layout.{IsUtf8-front, IsUtf8-byte}
 use Rattle.html_urls.specs.declared.linking.Linking.{Linking}
-use Rattle.html_urls.specs.Addresses.{is_scheme_byte, last_byte}
+use Rattle.html_urls.specs.Addresses.{is_of_word, last_of}
 use Rattle.html_urls.specs.Colon.{is_no_colon, is_of_scheme, is_end, EndsOff}
 use Rattle.html_urls.specs.Linked.{Standing, standing, prints, handed_character, held_character, standing_after, handed_from, standing_at_end}
 use Rattle.html_urls.specs.Linker.{performer_in, standing_of, Takes}
-use Rattle.html_urls.proofs.AddressLemmas.{last_byte-is}
+use Rattle.html_urls.proofs.AddressLemmas.{last_of-is}
 use Rattle.html_urls.proofs.ColonLemmas.{standing-clear, handed-clear, characters-clear}
 
 -- the calls of two texts, one after another, and of one byte
@@ -32,7 +32,7 @@ pub unlinked-prints : (cs : List ℕ) (at : Standing) → at.is_linked ≡ false
 unlinked-prints [] at unlinked = unlinked
 unlinked-prints (c ∷ cs) at unlinked = unlinked-prints cs (standing_after at (print c)) (by at.is_linked unlinked)
   where
-    by : (t : Bool) → t ≡ false → (if t then at else standing (held_character at c) (is_scheme_byte c) false).is_linked ≡ false
+    by : (t : Bool) → t ≡ false → (if t then at else standing (held_character at c) (is_of_word c) false).is_linked ≡ false
     by true is = unlinked
     by false is = refl
 
@@ -40,13 +40,13 @@ pub handed-linked : (cs : List ℕ) (at : Standing) → at.is_linked ≡ true �
 handed-linked [] at linked = refl
 handed-linked (c ∷ cs) at linked =
     ap₂ (λ (l : List Call) (s : Standing). l ++ handed_from s (prints cs)) (ap (λ (t : Bool). if t then print c ∷ [] else handed_character at c) linked)
-    (ap (λ (t : Bool). if t then at else standing (held_character at c) (is_scheme_byte c) false) linked)
+    (ap (λ (t : Bool). if t then at else standing (held_character at c) (is_of_word c) false) linked)
     ∙ ap (λ (l : List Call). print c ∷ l) (handed-linked cs at linked)
 
 pub standing-linked : (cs : List ℕ) (at : Standing) → at.is_linked ≡ true → standing_at_end at (prints cs) ≡ at
 standing-linked [] at linked = refl
 standing-linked (c ∷ cs) at linked =
-    ap (λ (s : Standing). standing_at_end s (prints cs)) (ap (λ (t : Bool). if t then at else standing (held_character at c) (is_scheme_byte c) false) linked)
+    ap (λ (s : Standing). standing_at_end s (prints cs)) (ap (λ (t : Bool). if t then at else standing (held_character at c) (is_of_word c) false) linked)
     ∙ standing-linked cs at linked
 
 -- a text that ends with a character that is none of a scheme, without a colon, where nothing is held
@@ -58,7 +58,7 @@ module _ {P : Type 0} (receives : P → List Call → P → Type 0) (old new : L
       (λ (none : front ≡ []). absurd (never rest (sym none ∙ joined)))
       (λ (some : (before : List ℕ) × (b : ℕ) × (front ≡ before ++ b ∷ []) × (is_end b ≡ true)).
       let (before, b, whole, is) = some in
-      subst (λ (k : ℕ). is_end k ≡ true) (sym (last_byte-is before b) ∙ ap last_byte (sym whole ∙ joined) ∙ last_byte-is rest last) is)
+      subst (λ (k : ℕ). is_end k ≡ true) (sym (last_of-is before b) ∙ ap last_of (sym whole ∙ joined) ∙ last_of-is rest last) is)
       ends
     where
       never : (l : List ℕ) → [] ≡ l ++ last ∷ [] → ⊥
@@ -81,7 +81,7 @@ module _ {P : Type 0} (receives : P → List Call → P → Type 0) (old new : L
   each = EachIs-parts is_no_colon rest (last ∷ []) (subst (EachIs is_no_colon) joined clear)
 
   pub front-taken : (standing_of old).held ≡ [] → (standing_of old).is_linked ≡ false
-      → standing_of new ≡ standing (standing_of old).held (is_scheme_byte last) (standing_of old).is_linked
+      → standing_of new ≡ standing (standing_of old).held (is_of_word last) (standing_of old).is_linked
       → receives (performer_in old) (text_calls front) (performer_in new) → Takes receives old (text_calls front) new
   front-taken empty unlinked stands printed =
       let within = (standing_of old).is_within in
@@ -91,7 +91,7 @@ module _ {P : Type 0} (receives : P → List Call → P → Type 0) (old new : L
       let other = not-true (is_of_scheme last) parts.1 in
       record {
         standing = stands
-            ∙ ap₂ (λ (held : List ℕ) (l : Bool). standing held (is_scheme_byte last) l) empty unlinked
+            ∙ ap₂ (λ (held : List ℕ) (l : Bool). standing held (is_of_word last) l) empty unlinked
             ∙ sym (ap₂ (λ (it : Standing) (made : List Call). standing_at_end it made) at characters ∙ standing-clear (chars rest) last within before other each.1.0);
         received = subst (λ (made : List Call). receives (performer_in old) made (performer_in new))
             (sym (ap₂ (λ (it : Standing) (made : List Call). handed_from it made) at characters ∙ handed-clear (chars rest) last within before other each.1.0 ∙ sym characters))

@@ -1,7 +1,8 @@
 -- Of characters without a colon none is part of an address yet: they are handed on, or held.
 use Rattle.std.proofs.Common.{◌≡◌, ◌<◌, ◌≤◌, ℕ, Bool, true, false, ◌&&◌, ◌||◌, List, [], ◌∷◌, ◌++◌, codes, length, take, drop, refl, sym, ap, ap₂, ◌∙◌, subst, append_assoc, append-nil, take-append-drop, arith, ⊎_elim}
 use Rattle.std.specs.Prelude.{encode_utf8, nat_eq, nat_lt, not, ◌==◌, if◌then◌else◌}
-use Rattle.std.specs.List.{list_all, starts_with}
+use Rattle.std.specs.List.{starts_with}
+use Rattle.std.specs.Char.{to_ascii_lowercase}
 use Rattle.std.specs.Str.{IsUtf8, chars, encode_utf8_all}
 use Rattle.std.proofs.lemmas.Bool.{or_cases, not-true, cases_lt, ne_eqb, false≢true}
 use Rattle.std.proofs.lemmas.Bool.Decides.{Decides-eqb}
@@ -13,16 +14,17 @@ use Rattle.anstyle_parse.specs.Stream.Items.{EachIs}
 use Rattle.anstyle_parse.proofs.Bytes.Passing.{EachIs-append, EachIs-parts}
 use Rattle.anstyle_parse.proofs.Characters.Encoding.{encode_one}
 use Rattle.ansi_html.specs.Links.{has_scheme}
-use Rattle.html_urls.specs.Addresses.{is_scheme_byte, is_uri_byte, begins_scheme, max_held, goes_on, address_of, address_length, behind_address, is_whole_byte, is_address}
+use Rattle.html_urls.specs.Addresses.{is_of_word, is_of_address, in_small, says_scheme, begins_scheme, max_held, goes_on, address_of, address_length, behind_address, is_address, target_of, fits}
 use Rattle.html_urls.specs.Linked.{Standing, standing, prints, released, released_as, begins, handed_character, held_character, standing_after, handed_from, standing_at_end}
 use Rattle.html_urls.specs.LinkerProof.{standing_at_end-append}
-use Rattle.html_urls.specs.Colon.{is_no_colon, is_of_scheme}
+use Rattle.html_urls.specs.Colon.{is_no_colon, is_of_small, is_of_scheme}
+use Rattle.html_urls.proofs.CaseLemmas.{colon-small, each-in_small}
 use Rattle.html_urls.proofs.SchemeLemmas.{begins-not}
 
 -- a text without a colon has no scheme
-no_scheme : (text : List ℕ) → EachIs is_no_colon text → has_scheme text ≡ false
+no_small : (text : List ℕ) → EachIs is_no_colon text → has_scheme text ≡ false
 unfolding has_scheme
-no_scheme text each = by (has_scheme text) refl
+no_small text each = by (has_scheme text) refl
   where
     front : (scheme : List ℕ) → starts_with nat_eq text scheme ≡ true → EachIs is_no_colon scheme
     front scheme is =
@@ -44,16 +46,20 @@ no_scheme text each = by (has_scheme text) refl
         (or_cases (starts_with nat_eq text (codes "https://")) (starts_with nat_eq text (codes "http://") || starts_with nat_eq text (codes "mailto:")) is)
     by false is = refl
 
+no_scheme : (text : List ℕ) → EachIs is_no_colon text → says_scheme text ≡ false
+no_scheme text each = no_small (in_small text) (each-in_small is_no_colon colon-small text each)
+
 -- so it is handed on as it is
 no_address : (text : List ℕ) → EachIs is_no_colon text → is_address text ≡ false
 unfolding is_address
-no_address text each = ap (λ (t : Bool). t && (not (begins_scheme text) && list_all is_whole_byte text)) (no_scheme text each)
+no_address text each = ap (λ (t : Bool). t && not (begins_scheme text)) (no_scheme text each)
 
 pub released-clear : (text : List ℕ) → EachIs is_no_colon text → released text ≡ prints text
 released-clear text each =
     let count = address_length (length text) text in
     let parts = EachIs-parts is_no_colon (take count text) (drop count text) (subst (EachIs is_no_colon) (sym (take-append-drop count text)) each) in
-    ap (λ (t : Bool). released_as (nat_lt (length text) max_held && t) (address_of text) (behind_address text) text) (no_address (address_of text) parts.0)
+    ap (λ (t : Bool). released_as (nat_lt (length text) max_held && (t && fits (target_of (address_of text)))) (address_of text) (behind_address text) text)
+    (no_address (address_of text) parts.0)
     ∙ ap (λ (t : Bool). released_as t (address_of text) (behind_address text) text) (never (nat_lt (length text) max_held))
   where
     never : (t : Bool) → (t && false) ≡ false
@@ -92,11 +98,11 @@ stays-clear [] held is_within each clear = record { calls = sym (append-nil (pri
 stays-clear (c ∷ cs) held is_within each clear =
     let at = standing held is_within false in
     let next = held_character at c in
-    let after = standing next (is_scheme_byte c) false in
+    let after = standing next (is_of_word c) false in
     let here = handed_character at c in
     let more = handed_from after (prints cs) in
     let end = prints (standing_at_end after (prints cs)).held in
-    let rest = stays-clear cs next (is_scheme_byte c) (held-clear at c each clear.0) clear.1 in
+    let rest = stays-clear cs next (is_of_word c) (held-clear at c each clear.0) clear.1 in
     record {
       calls = append_assoc here more end
           ∙ ap (λ (l : List Call). here ++ l) rest.calls
@@ -109,11 +115,11 @@ stays-clear (c ∷ cs) held is_within each clear =
 
 -- a character that is none of a scheme, and no colon, ends what is held
 abbrev is_either : ℕ → Bool
-is_either b = is_of_scheme b || (b == 0x3A)
+is_either b = is_of_small b || (b == 0x3A)
 
 module _ (c : ℕ) (other : is_of_scheme c ≡ false) (clear : is_no_colon c ≡ true) where
-  neither : is_either c ≡ false
-  neither = ap₂ (λ (s t : Bool). s || t) other (not-true (c == 0x3A) clear)
+  neither : is_either (to_ascii_lowercase c) ≡ false
+  neither = ap₂ (λ (s t : Bool). s || t) other (not-true (to_ascii_lowercase c == 0x3A) (colon-small c clear))
 
   begins-none : (text : List ℕ) → begins_scheme (text ++ c ∷ []) ≡ false
   begins-none text =
@@ -126,7 +132,7 @@ module _ (c : ℕ) (other : is_of_scheme c ≡ false) (clear : is_no_colon c ≡
   ends : (text : List ℕ) → EachIs is_no_colon text → goes_on text c ≡ false
   ends [] each = refl
   ends (first ∷ text) each =
-      ap₂ (λ (scheme starts : Bool). nat_lt (length (first ∷ text)) max_held && (if scheme then is_uri_byte c else starts)) (no_scheme (first ∷ text) each) (begins-none (first ∷ text))
+      ap₂ (λ (scheme starts : Bool). nat_lt (length (first ∷ text)) max_held && (if scheme then is_of_address c else starts)) (no_scheme (first ∷ text) each) (begins-none (first ∷ text))
       ∙ never (nat_lt (length (first ∷ text)) max_held)
     where
       never : (t : Bool) → (t && false) ≡ false
@@ -156,12 +162,12 @@ module _ (before : List ℕ) (c : ℕ) (is_within : Bool) (each : EachIs is_no_c
   joined : prints (before ++ c ∷ []) ≡ prints before ++ print c ∷ []
   joined = map-append print before (c ∷ [])
 
-  last : (at : Standing) → at.is_linked ≡ false → EachIs is_no_colon at.held → standing_after at (print c) ≡ standing [] (is_scheme_byte c) false
+  last : (at : Standing) → at.is_linked ≡ false → EachIs is_no_colon at.held → standing_after at (print c) ≡ standing [] (is_of_word c) false
   last at unlinked held =
-      ap (λ (t : Bool). if t then at else standing (held_character at c) (is_scheme_byte c) false) unlinked
-      ∙ ap (λ (l : List ℕ). standing l (is_scheme_byte c) false) (held-ended c other clear at held)
+      ap (λ (t : Bool). if t then at else standing (held_character at c) (is_of_word c) false) unlinked
+      ∙ ap (λ (l : List ℕ). standing l (is_of_word c) false) (held-ended c other clear at held)
 
-  pub standing-clear : standing_at_end start (prints (before ++ c ∷ [])) ≡ standing [] (is_scheme_byte c) false
+  pub standing-clear : standing_at_end start (prints (before ++ c ∷ [])) ≡ standing [] (is_of_word c) false
   standing-clear =
       ap (standing_at_end start) joined ∙ standing_at_end-append start (prints before) (print c ∷ [])
       ∙ last (standing_at_end start (prints before)) front.unlinked front.clear

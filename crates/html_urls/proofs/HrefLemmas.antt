@@ -1,16 +1,16 @@
 -- What a reader sees as links: in an address its own text, and elsewhere the link of the stream.
-use Rattle.std.proofs.Common.{◌≡◌, ◌<◌, ℕ, Bool, true, false, ◌&&◌, List, [], ◌∷◌, ◌++◌, codes, length, map, refl, sym, ap, ap₂, ◌∙◌, append_assoc, take-append-drop, length-append, length-take, arith, eqb-true}
-use Rattle.std.specs.Prelude.{not, nat_le, nat_lt, ◌==◌, if◌then◌else◌, encode_utf8}
-use Rattle.std.specs.List.{flat_map, list_all, concat}
-use Rattle.std.proofs.lemmas.Bool.{and_parts, and_from, not-false, lt-ltb, ltb-true, le-leb}
+use Rattle.std.proofs.Common.{◌≡◌, ℕ, Bool, true, false, ◌&&◌, List, [], ◌∷◌, ◌++◌, codes, length, map, take, drop, refl, sym, ap, ap₂, ◌∙◌, subst, append_assoc, take-append-drop, eqb-true}
+use Rattle.std.specs.Prelude.{not, nat_lt, if◌then◌else◌, encode_utf8}
+use Rattle.std.specs.List.{flat_map}
+use Rattle.std.proofs.lemmas.Bool.{and_parts, not-false}
 use Rattle.std.proofs.lemmas.List.{map-append, nil_from_length}
-use Rattle.anstyle_parse.specs.Stream.Arguments.{max_osc_bytes, max_osc_parts}
-use Rattle.anstyle_parse.specs.Stream.Bytes.{semicolon}
+use Rattle.anstyle_parse.specs.Stream.Items.{EachIs}
+use Rattle.anstyle_parse.proofs.Bytes.Passing.{EachIs-parts}
 use Rattle.anstyle_parse.specs.Stream.Call.{Call, print, execute, hook, put, unhook, osc_dispatch, csi_dispatch, esc_dispatch}
 use Rattle.ansi_strip.specs.Strip.{stripped_call, stripped}
 use Rattle.ansi_html.specs.declared.scheme.Styling.{Styling}
 use Rattle.ansi_html.specs.declared.scheme.Styling.TheVariants.{Inline, Classes}
-use Rattle.ansi_html.specs.Links.{has_scheme, is_visible, is_linkable, is_none, is_link_command, is_whole, uri_of, link_of, link_after}
+use Rattle.ansi_html.specs.Links.{is_linkable, is_none, is_link_command, is_whole, uri_of, link_of, link_after}
 use Rattle.ansi_html.specs.Html.{Element, element, no_element, element_value, element_after, is_executed, html}
 use Rattle.ansi_html.specs.Affordable.{feed_counts, earned, is_paid, spare_after, link_kept, end_of_link, end_unpaid, affordable_from, affordable}
 use Rattle.ansi_html.specs.Lines.{lined_html}
@@ -19,10 +19,10 @@ use Rattle.ansi_html.specs.Reader.{Shown, href_of, under, attributes_by, attribu
 use Rattle.ansi_html.proofs.ReadLemmas.{read-html}
 use Rattle.ansi_html.proofs.LineLemmas.{read-lined_html}
 use Rattle.ansi_html.proofs.BlockLemmas.{read-blocked_html}
-use Rattle.html_urls.specs.Addresses.{is_uri_byte, is_whole_byte, begins_scheme, max_held, address_of, address_length, behind_address, is_address, joins_after, is_link}
+use Rattle.html_urls.specs.Addresses.{is_of_address, says_scheme, begins_scheme, max_held, address_of, address_length, behind_address, is_address, target_of, fits, joins_after, is_link}
 use Rattle.html_urls.specs.Linked.{link_command, prints, released, released_as, linked_after, linked}
 use Rattle.html_urls.specs.Found.{Part, as_is, in_run, joins_call, AreFound, AreParts, with_link, hrefs_of, hrefs, spare_with, hrefs_paid, hrefs_in_blocks}
-use Rattle.html_urls.proofs.LawfulLemmas.{uri_byte-visible}
+use Rattle.html_urls.proofs.TargetLemmas.{parts, target-visible, target-scheme, link-selected}
 use Rattle.html_urls.proofs.TextLemmas.{printed-append}
 use Rattle.html_urls.proofs.FoundLemmas.{found-linked}
 use Rattle.html_urls.proofs.OnlyLemmas.{parts-only}
@@ -55,31 +55,17 @@ seen-prints styling it (c ∷ text) more =
     ∙ sym (append_assoc (map own (encode_utf8 c)) (hrefs_of it.link text) rest)
     ∙ ap (λ (l : List (List ℕ)). l ++ rest) (sym (map-append own (encode_utf8 c) (stripped (prints text))))
 
--- the command of an address selects it, and the one of none ends it
-each-visible : (bytes : List ℕ) → list_all is_whole_byte bytes ≡ true → list_all is_visible bytes ≡ true
-each-visible [] are = refl
-each-visible (b ∷ bytes) are =
-    let parts = and_parts (is_whole_byte b) (list_all is_whole_byte bytes) are in
-    let visible = uri_byte-visible b (and_parts (is_uri_byte b) (not (b == semicolon)) parts.0).0 in
-    and_from (is_visible b) (list_all is_visible bytes) (and_from (nat_le 0x21 b) (nat_le b 0x7E) (le-leb 0x21 b visible.0) (le-leb b 0x7E visible.1)) (each-visible bytes parts.1)
-
-fits : (address : List ℕ) → length address < max_held → length (concat (codes "8" ∷ [] ∷ address ∷ [])) < max_osc_bytes
-fits address short = omega (arith, short, length-append address [])
-
-link-selected : (run : List ℕ) → is_link run ≡ true → link_of (codes "8" ∷ [] ∷ address_of run ∷ []) ≡ address_of run
-unfolding link_of is_linkable is_address
-link-selected run is =
+-- the command of an address selects its link, and the one of none ends it
+run-selected : (run : List ℕ) → EachIs is_of_address run → is_link run ≡ true → link_of (codes "8" ∷ [] ∷ parts (target_of (address_of run))) ≡ target_of (address_of run)
+unfolding is_address
+run-selected run each is =
     let address = address_of run in
-    let parts = and_parts (nat_lt (length run) max_held) (is_address address) is in
-    let short = ltb-true (length run) max_held parts.0 in
-    let scheme = and_parts (has_scheme address) (not (begins_scheme address) && list_all is_whole_byte address) parts.1 in
-    let whole = and_parts (not (begins_scheme address)) (list_all is_whole_byte address) scheme.1 in
-    let command = codes "8" ∷ [] ∷ address ∷ [] in
-    let all_of : length address < max_held = omega (arith, short, length-take (address_length (length run) run) run) in
-    ap (λ (t : Bool). if t then address else [])
-    (and_from (is_whole command) (is_linkable address)
-    (and_from (nat_lt 3 max_osc_parts) (nat_lt (length (concat command)) max_osc_bytes) refl (lt-ltb (length (concat command)) max_osc_bytes (fits address all_of)))
-    (and_from (has_scheme address) (list_all is_visible address) scheme.0 (each-visible address whole.1)))
+    let n = address_length (length run) run in
+    let whole = and_parts (nat_lt (length run) max_held) (is_address address && fits (target_of address)) is in
+    let room = and_parts (is_address address) (fits (target_of address)) whole.1 in
+    let says = (and_parts (says_scheme address) (not (begins_scheme address)) room.0).0 in
+    let front = (EachIs-parts is_of_address (take n run) (drop n run) (subst (EachIs is_of_address) (sym (take-append-drop n run)) each)).0 in
+    link-selected (target_of address) (target-scheme address says) (target-visible address front) room.1
 
 none-either : (t : Bool) (link : List ℕ) → link ≡ [] → (if t then link else []) ≡ []
 none-either true link none = none
@@ -118,15 +104,16 @@ module _ (styling : Styling) (it : Element) (run : List ℕ) (more : List Call) 
       map href_of (shown_from styling (element it.style []) (made ++ more))
       ≡ hrefs_of link (address_of run) ++ (hrefs_of [] (behind_address run) ++ map href_of (shown_from styling (element it.style []) more))
 
-  seen-link : is_link run ≡ true → Seen (released_as true (address_of run) (behind_address run) run) (address_of run)
-  seen-link is =
+  seen-link : EachIs is_of_address run → is_link run ≡ true → Seen (released_as true (address_of run) (behind_address run) run) (target_of (address_of run))
+  seen-link each is =
       let address = address_of run in
+      let target = target_of address in
       let behind = behind_address run in
       let end = prints behind ++ more in
-      ap (λ (l : List Call). map href_of (shown_from styling (element it.style (link_of (codes "8" ∷ [] ∷ address ∷ []))) l)) (append_assoc (prints address) (link_command [] ∷ prints behind) more)
-      ∙ ap (λ (link : List ℕ). map href_of (shown_from styling (element it.style link) (prints address ++ (link_command [] ∷ end)))) (link-selected run is)
-      ∙ seen-prints styling (element it.style address) address (link_command [] ∷ end)
-      ∙ ap (λ (l : List (List ℕ)). hrefs_of address address ++ l)
+      ap (λ (l : List Call). map href_of (shown_from styling (element it.style (link_of (codes "8" ∷ [] ∷ parts target))) l)) (append_assoc (prints address) (link_command [] ∷ prints behind) more)
+      ∙ ap (λ (link : List ℕ). map href_of (shown_from styling (element it.style link) (prints address ++ (link_command [] ∷ end)))) (run-selected run each is)
+      ∙ seen-prints styling (element it.style target) address (link_command [] ∷ end)
+      ∙ ap (λ (l : List (List ℕ)). hrefs_of target address ++ l)
       (ap (λ (link : List ℕ). map href_of (shown_from styling (element it.style link) end)) link-ended ∙ seen-prints styling (element it.style []) behind more)
 
   seen-text : Seen (prints run) []
@@ -140,11 +127,11 @@ module _ (styling : Styling) (it : Element) (run : List ℕ) (more : List Call) 
       ∙ map-append none_at (stripped (prints address)) (stripped (prints behind)))
       ∙ append_assoc (hrefs_of [] address) (hrefs_of [] behind) rest
 
-  seen-run : Seen (released run) (if is_link run then address_of run else [])
-  seen-run = by (is_link run) refl
+  seen-run : EachIs is_of_address run → Seen (released run) (if is_link run then target_of (address_of run) else [])
+  seen-run each = by (is_link run) refl
     where
-      by : (t : Bool) → is_link run ≡ t → Seen (released_as t (address_of run) (behind_address run) run) (if t then address_of run else [])
-      by true is = seen-link is
+      by : (t : Bool) → is_link run ≡ t → Seen (released_as t (address_of run) (behind_address run) run) (if t then target_of (address_of run) else [])
+      by true is = seen-link each is
       by false is = seen-text
 
 -- part by part
@@ -158,8 +145,8 @@ seen-parts styling (as_is call ∷ parts) joins is_linked calls it are none =
 seen-parts styling (in_run run ∷ parts) joins is_linked calls it are none =
     let more = flat_map with_link parts in
     ap (λ (l : List ℕ). map href_of (shown_from styling (element it.style l) (released run ++ more))) (none are.2)
-    ∙ seen-run styling it run more
-    ∙ ap (λ (l : List (List ℕ)). hrefs_of (if is_link run then address_of run else []) (address_of run) ++ (hrefs_of [] (behind_address run) ++ l))
+    ∙ seen-run styling it run more are.4.each
+    ∙ ap (λ (l : List (List ℕ)). hrefs_of (if is_link run then target_of (address_of run) else []) (address_of run) ++ (hrefs_of [] (behind_address run) ++ l))
     (seen-parts styling parts (joins_after joins run) false are.0 (element it.style []) are.5 (λ _. refl))
 
 -- In lines: characters that are printed end no link, nor does an address.
@@ -173,18 +160,18 @@ spare-append : (text more : List ℕ) (spare : ℕ) → spare_with more (spare_w
 spare-append [] more spare = refl
 spare-append (c ∷ text) more spare = spare-append text more (spare_after (print c) spare [])
 
-affordable-link : (spare : ℕ) (address behind : List ℕ) (more : List Call)
-    → affordable_from spare [] ((link_command address ∷ prints address ++ (link_command [] ∷ prints behind)) ++ more)
-    ≡ (link_command address ∷ prints address ++ (link_command [] ∷ prints behind)) ++ affordable_from (spare_with (address ++ behind) spare) [] more
-affordable-link spare address behind more =
-    let selected = link_of (codes "8" ∷ [] ∷ address ∷ []) in
+affordable-link : (spare : ℕ) (target address behind : List ℕ) (more : List Call)
+    → affordable_from spare [] ((link_command target ∷ prints address ++ (link_command [] ∷ prints behind)) ++ more)
+    ≡ (link_command target ∷ prints address ++ (link_command [] ∷ prints behind)) ++ affordable_from (spare_with (address ++ behind) spare) [] more
+affordable-link spare target address behind more =
+    let selected = link_of (codes "8" ∷ [] ∷ parts target) in
     let after = spare_with address spare in
-    ap (λ (l : List Call). link_command address ∷ affordable_from spare selected l) (append_assoc (prints address) (link_command [] ∷ prints behind) more)
-    ∙ ap (λ (l : List Call). link_command address ∷ l) (affordable-prints spare selected address (link_command [] ∷ (prints behind ++ more)))
-    ∙ ap (λ (link : List ℕ). link_command address ∷ (prints address ++ (link_command [] ∷ affordable_from after link (prints behind ++ more)))) link-ended
-    ∙ ap (λ (l : List Call). link_command address ∷ (prints address ++ (link_command [] ∷ l))) (affordable-prints after [] behind more)
-    ∙ ap (λ (left : ℕ). link_command address ∷ (prints address ++ (link_command [] ∷ (prints behind ++ affordable_from left [] more)))) (spare-append address behind spare)
-    ∙ ap (λ (l : List Call). link_command address ∷ l)
+    ap (λ (l : List Call). link_command target ∷ affordable_from spare selected l) (append_assoc (prints address) (link_command [] ∷ prints behind) more)
+    ∙ ap (λ (l : List Call). link_command target ∷ l) (affordable-prints spare selected address (link_command [] ∷ (prints behind ++ more)))
+    ∙ ap (λ (link : List ℕ). link_command target ∷ (prints address ++ (link_command [] ∷ affordable_from after link (prints behind ++ more)))) link-ended
+    ∙ ap (λ (l : List Call). link_command target ∷ (prints address ++ (link_command [] ∷ l))) (affordable-prints after [] behind more)
+    ∙ ap (λ (left : ℕ). link_command target ∷ (prints address ++ (link_command [] ∷ (prints behind ++ affordable_from left [] more)))) (spare-append address behind spare)
+    ∙ ap (λ (l : List Call). link_command target ∷ l)
     (sym (append_assoc (prints address) (link_command [] ∷ prints behind) (affordable_from (spare_with (address ++ behind) spare) [] more)))
 
 affordable-run : (spare : ℕ) (run : List ℕ) (more : List Call)
@@ -199,7 +186,7 @@ affordable-run spare run more = by (is_link run)
 
     by : (is : Bool) → affordable_from spare [] (released_as is address behind run ++ more) ≡ released_as is address behind run ++ affordable_from (spare_with run spare) [] more
     by true =
-        affordable-link spare address behind more
+        affordable-link spare (target_of address) address behind more
         ∙ ap (λ (text : List ℕ). released_as true address behind run ++ affordable_from (spare_with text spare) [] more) (take-append-drop (address_length (length run) run) run)
     by false = affordable-prints spare [] run more
 
@@ -245,8 +232,8 @@ seen-paid styling (in_run run ∷ parts) joins is_linked calls it spare are none
     let more = affordable_from left [] others in
     ap (λ (l : List ℕ). map href_of (shown_from styling (element it.style l) (affordable_from spare l (released run ++ others)))) (none are.2)
     ∙ ap (λ (l : List Call). map href_of (shown_from styling (element it.style []) l)) (affordable-run spare run others)
-    ∙ seen-run styling it run more
-    ∙ ap (λ (l : List (List ℕ)). hrefs_of (if is_link run then address_of run else []) (address_of run) ++ (hrefs_of [] (behind_address run) ++ l))
+    ∙ seen-run styling it run more are.4.each
+    ∙ ap (λ (l : List (List ℕ)). hrefs_of (if is_link run then target_of (address_of run) else []) (address_of run) ++ (hrefs_of [] (behind_address run) ++ l))
     (seen-paid styling parts (joins_after joins run) false are.0 (element it.style []) left are.5 (λ _. refl))
 
 -- So a reader sees these links.

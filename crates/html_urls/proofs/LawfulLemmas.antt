@@ -1,139 +1,71 @@
 -- The calls in which addresses are links are a list of calls that a parser can make.
-use Rattle.std.proofs.Common.{◌≡◌, ◌<◌, ◌≤◌, ℕ, Bool, true, false, ◌&&◌, ◌||◌, List, [], ◌∷◌, ◌++◌, codes, length, refl, sym, ap, ◌∙◌, subst, append_assoc, append-nil, take-append-drop, length-append, length-take, arith, ⊎_elim}
-use Rattle.std.specs.Prelude.{nat_eq, nat_le, nat_lt, not, ◌==◌, if◌then◌else◌}
-use Rattle.std.specs.List.{list_all}
-use Rattle.std.proofs.lemmas.Bool.{and_parts, and_from, or_cases, leb-true, ltb-true, eqb-true, false≢true}
-use Rattle.anstyle_parse.specs.Stream.Bytes.{is_within, semicolon}
-use Rattle.anstyle_parse.specs.Stream.Arguments.{is_kept}
+use Rattle.std.proofs.Common.{◌≡◌, ℕ, Bool, true, false, ◌&&◌, List, [], ◌∷◌, ◌++◌, codes, length, refl, sym, ap, ◌∙◌, subst, append_assoc, append-nil, take-append-drop}
+use Rattle.std.specs.Prelude.{nat_lt, not, if◌then◌else◌}
+use Rattle.std.proofs.lemmas.Bool.{and_parts, false≢true}
 use Rattle.anstyle_parse.specs.Stream.Call.{Call, print, execute, hook, put, unhook, osc_dispatch, csi_dispatch, esc_dispatch}
 use Rattle.anstyle_parse.specs.Stream.Items.{EachIs}
 use Rattle.anstyle_parse.specs.Stream.Calls.{AreCalls}
-use Rattle.anstyle_parse.specs.Laws.Lawful.{is_character, is_stored, AreParts, AreLawfulFrom, AreLawful, AreMade}
+use Rattle.anstyle_parse.specs.Laws.Lawful.{is_character, AreLawfulFrom, AreLawful, AreMade}
 use Rattle.anstyle_parse.proofs.Bytes.Passing.{EachIs-append, EachIs-parts, EachIs-weaker}
-use Rattle.anstyle_parse.proofs.Characters.Encoding.{within}
-use Rattle.anstyle_parse.proofs.Characters.Scalars.{is_character-low}
 use Rattle.anstyle_parse.proofs.Lawful.Calls.{lawful}
 use Rattle.anstyle_parse.proofs.Canonical.Bytes.{lawful_exactly}
-use Rattle.ansi_html.specs.Links.{has_scheme}
-use Rattle.html_urls.specs.Addresses.{is_between, is_uri_byte, is_scheme_byte, is_whole_byte, begins_scheme, max_held, goes_on, address_of, address_length, behind_address, is_address, is_link}
+use Rattle.html_urls.specs.Addresses.{is_of_uri, is_beyond_uri, is_of_address, is_of_word, in_small, says_scheme, begins_scheme, max_held, goes_on, address_of, address_length, behind_address, is_address, target_of, fits, is_link}
 use Rattle.html_urls.specs.Linked.{Standing, standing, at_start, link_command, prints, released, released_as, begins, handed, handed_character, held_character, standing_after, handed_from, left_from, linked}
+use Rattle.html_urls.proofs.CaseLemmas.{or-left, address-character, uri-small, each-small}
 use Rattle.html_urls.proofs.SchemeLemmas.{begins-each}
+use Rattle.html_urls.proofs.TargetLemmas.{all-each, target-visible, link-parts, fits-none}
 use Rattle.html_urls.proofs.ColonLemmas.{released-clear}
 
--- a byte of a URI is visible
-module _ (b : ℕ) where
-  abbrev pub IsVisible : Type 0
-  IsVisible = (0x21 ≤ b) × (b ≤ 0x7E)
-
-  one : (k : ℕ) → 0x21 ≤ k → k ≤ 0x7E → nat_eq b k ≡ true → IsVisible
-  one k low high is = let same = eqb-true b k is in (omega arith, omega arith)
-
-  some : (first last : ℕ) → 0x21 ≤ first → last ≤ 0x7E → is_between first last b ≡ true → IsVisible
-  some first last low high is =
-      let parts = and_parts (nat_le first b) (nat_le b last) is in
-      let above = leb-true first b parts.0 in
-      let below = leb-true b last parts.1 in
-      (omega arith, omega arith)
-
-  either : (s t : Bool) → (s ≡ true → IsVisible) → (t ≡ true → IsVisible) → (s || t) ≡ true → IsVisible
-  either s t left right is = ⊎_elim left right (or_cases s t is)
-
-  pub uri_byte-visible : is_uri_byte b ≡ true → IsVisible
-  uri_byte-visible =
-      either _ _ (one 0x21 (omega arith) (omega arith))
-      (either _ _ (some 0x23 0x3B (omega arith) (omega arith))
-      (either _ _ (one 0x3D (omega arith) (omega arith))
-      (either _ _ (some 0x3F 0x5B (omega arith) (omega arith))
-      (either _ _ (one 0x5D (omega arith) (omega arith))
-      (either _ _ (one 0x5F (omega arith) (omega arith))
-      (either _ _ (some 0x61 0x7A (omega arith) (omega arith))
-      (one 0x7E (omega arith) (omega arith))))))))
-
-  -- so it is a character, and what a command may have, if it is no separator
-  uri_byte-character : is_uri_byte b ≡ true → is_character b ≡ true
-  uri_byte-character is = let visible = uri_byte-visible is in is_character-low b (omega (arith, visible.0)) (omega (arith, visible.1))
-
-  whole_byte-stored : is_whole_byte b ≡ true → is_stored b ≡ true
-  unfolding is_stored is_kept
-  whole_byte-stored is =
-      let parts = and_parts (is_uri_byte b) (not (b == semicolon)) is in
-      let visible = uri_byte-visible parts.0 in
-      and_from _ _ (within 0x20 0xFF b (omega (arith, visible.0)) (omega (arith, visible.1))) parts.1
-
-all-each : (test : ℕ → Bool) (bytes : List ℕ) → list_all test bytes ≡ true → EachIs test bytes
-all-each test [] is = tt
-all-each test (b ∷ bytes) is = let parts = and_parts (test b) (list_all test bytes) is in (parts.0, all-each test bytes parts.1)
-
--- the parts of a command that begins a link to such an address, or ends one
-link-parts : (address : List ℕ) → EachIs is_stored address → length address < max_held → AreParts (codes "8" ∷ [] ∷ address ∷ [])
-unfolding is_stored is_kept is_within
-link-parts address stored short = record {
-  some_part = omega arith;
-  parts_fit = omega arith;
-  bytes_are = ((refl, tt), (tt, (stored, tt)));
-  bytes_fit = omega (arith, short, length-append address []);
-  last_used = λ full. absurd (omega (arith, short, full, length-append address []));
-}
-
--- an address has bytes that a command may have
-address-stored : (address : List ℕ) → is_address address ≡ true → EachIs is_stored address
-unfolding is_address
-address-stored address is =
-    let parts = and_parts (has_scheme address) (not (begins_scheme address) && list_all is_whole_byte address) is in
-    let each = and_parts (not (begins_scheme address)) (list_all is_whole_byte address) parts.1 in
-    EachIs-weaker is_whole_byte is_stored whole_byte-stored address (all-each is_whole_byte address each.1)
-
 -- What is printed may stand before any calls outside of a hooked string, and so may what is released.
-prints-lawful : (text : List ℕ) (calls : List Call) → EachIs is_uri_byte text → AreLawful calls → AreLawful (prints text ++ calls)
+prints-lawful : (text : List ℕ) (calls : List Call) → EachIs is_of_address text → AreLawful calls → AreLawful (prints text ++ calls)
 prints-lawful [] calls each more = more
-prints-lawful (b ∷ text) calls each more = (uri_byte-character b each.0, prints-lawful text calls each.1 more)
+prints-lawful (b ∷ text) calls each more = (address-character b each.0, prints-lawful text calls each.1 more)
 
-link-lawful : (text : List ℕ) (calls : List Call) → EachIs is_uri_byte text → is_link text ≡ true → AreLawful calls
+link-lawful : (text : List ℕ) (calls : List Call) → EachIs is_of_address text → is_link text ≡ true → AreLawful calls
     → AreLawful (released_as true (address_of text) (behind_address text) text ++ calls)
 link-lawful text calls each is more =
     let address = address_of text in
     let behind = behind_address text in
-    let parts = and_parts (nat_lt (length text) max_held) (is_address address) is in
-    let short = ltb-true (length text) max_held parts.0 in
-    let bytes = EachIs-parts is_uri_byte address behind (subst (EachIs is_uri_byte) (sym (take-append-drop (address_length (length text) text) text)) each) in (
-      link-parts address (address-stored address parts.1) (omega (arith, short, length-take (address_length (length text) text) text)),
+    let parts = and_parts (nat_lt (length text) max_held) (is_address address && fits (target_of address)) is in
+    let room = and_parts (is_address address) (fits (target_of address)) parts.1 in
+    let both = EachIs-parts is_of_address address behind (subst (EachIs is_of_address) (sym (take-append-drop (address_length (length text) text) text)) each) in (
+      link-parts (target_of address) (target-visible address both.0) room.1,
       subst AreLawful (sym (append_assoc (prints address) (link_command [] ∷ prints behind) calls))
-          (prints-lawful address (link_command [] ∷ (prints behind ++ calls)) bytes.0 (link-parts [] tt (omega arith), prints-lawful behind calls bytes.1 more)),
+          (prints-lawful address (link_command [] ∷ (prints behind ++ calls)) both.0 (link-parts [] tt fits-none, prints-lawful behind calls both.1 more)),
     )
 
-released-lawful : (text : List ℕ) (calls : List Call) → EachIs is_uri_byte text → AreLawful calls → AreLawful (released text ++ calls)
+released-lawful : (text : List ℕ) (calls : List Call) → EachIs is_of_address text → AreLawful calls → AreLawful (released text ++ calls)
 released-lawful text calls each more = by (is_link text) refl
   where
     by : (t : Bool) → is_link text ≡ t → AreLawful (released_as t (address_of text) (behind_address text) text ++ calls)
     by true is = link-lawful text calls each is more
     by false is = prints-lawful text calls each more
 
--- What is held are bytes of a URI.
-pub each-begins : (text : List ℕ) → begins_scheme text ≡ true → EachIs is_uri_byte text
+-- What is held are characters of an address.
+pub each-begins : (text : List ℕ) → begins_scheme text ≡ true → EachIs is_of_address text
 each-begins text is =
-    begins-each is_uri_byte
-    (refl, (refl, (refl, (refl, (refl, (refl, (refl, (refl, tt))))))))
-    (refl, (refl, (refl, (refl, (refl, (refl, (refl, tt)))))))
-    (refl, (refl, (refl, (refl, (refl, (refl, (refl, tt)))))))
-    text is
+    EachIs-weaker is_of_uri is_of_address (λ c uri. or-left (is_of_uri c) (is_beyond_uri c) uri) text
+    (each-small is_of_uri uri-small text
+    (begins-each is_of_uri (all-each is_of_uri (codes "https://") refl) (all-each is_of_uri (codes "http://") refl) (all-each is_of_uri (codes "mailto:") refl)
+    (in_small text) is))
 
-pub goes_on-uri : (text : List ℕ) (c : ℕ) → goes_on text c ≡ true → is_uri_byte c ≡ true
+pub goes_on-uri : (text : List ℕ) (c : ℕ) → goes_on text c ≡ true → is_of_address c ≡ true
 goes_on-uri [] c is = absurd (false≢true is)
 goes_on-uri (first ∷ text) c is =
-    by (has_scheme (first ∷ text)) (and_parts (nat_lt (length (first ∷ text)) max_held) (if has_scheme (first ∷ text) then is_uri_byte c else begins_scheme ((first ∷ text) ++ c ∷ [])) is).1
+    by (says_scheme (first ∷ text)) (and_parts (nat_lt (length (first ∷ text)) max_held) (if says_scheme (first ∷ text) then is_of_address c else begins_scheme ((first ∷ text) ++ c ∷ [])) is).1
   where
-    by : (t : Bool) → (if t then is_uri_byte c else begins_scheme ((first ∷ text) ++ c ∷ [])) ≡ true → is_uri_byte c ≡ true
+    by : (t : Bool) → (if t then is_of_address c else begins_scheme ((first ∷ text) ++ c ∷ [])) ≡ true → is_of_address c ≡ true
     by true uri = uri
-    by false scheme = (EachIs-parts is_uri_byte (first ∷ text) (c ∷ []) (each-begins ((first ∷ text) ++ c ∷ []) scheme)).1.0
+    by false scheme = (EachIs-parts is_of_address (first ∷ text) (c ∷ []) (each-begins ((first ∷ text) ++ c ∷ []) scheme)).1.0
 
 -- A character that is printed, where no link is open: what is handed on by it may stand before any calls, and what is
--- then held are bytes of a URI.
-module _ (at : Standing) (c : ℕ) (each : EachIs is_uri_byte at.held) where
-  held-uri : EachIs is_uri_byte (held_character at c)
+-- then held are characters of an address.
+module _ (at : Standing) (c : ℕ) (each : EachIs is_of_address at.held) where
+  held-uri : EachIs is_of_address (held_character at c)
   held-uri = by (goes_on at.held c) (begins at c) refl refl
     where
-      by : (on starts : Bool) → goes_on at.held c ≡ on → begins at c ≡ starts → EachIs is_uri_byte (if on then at.held ++ c ∷ [] else if starts then c ∷ [] else [])
-      by true starts on start = EachIs-append is_uri_byte at.held (c ∷ []) each (goes_on-uri at.held c on, tt)
+      by : (on starts : Bool) → goes_on at.held c ≡ on → begins at c ≡ starts → EachIs is_of_address (if on then at.held ++ c ∷ [] else if starts then c ∷ [] else [])
+      by true starts on start = EachIs-append is_of_address at.held (c ∷ []) each (goes_on-uri at.held c on, tt)
       by false true on start = each-begins (c ∷ []) (and_parts (not at.is_within) (begins_scheme (c ∷ [])) start).1
       by false false on start = tt
 
@@ -145,9 +77,9 @@ module _ (at : Standing) (c : ℕ) (each : EachIs is_uri_byte at.held) where
       by false true = subst AreLawful (sym (append_assoc (released at.held) [] calls)) (released-lawful at.held calls each more)
       by false false = subst AreLawful (sym (append_assoc (released at.held) (print c ∷ []) calls)) (released-lawful at.held (print c ∷ calls) each (printed, more))
 
--- Where a stream can stand: bytes of a URI are held, and within a hooked string none.
+-- Where a stream can stand: characters of an address are held, and within a hooked string none.
 record CanStand (hooked : Bool) (at : Standing) : Type 0 where
-  each : EachIs is_uri_byte at.held
+  each : EachIs is_of_address at.held
   none : hooked ≡ true → at.held ≡ []
 
 -- any other call is handed on behind what was held
@@ -180,10 +112,10 @@ print-lawful : (at : Standing) (c : ℕ) (calls : List Call) → CanStand false 
 print-lawful at c calls stands printed go = by at.is_linked
   where
     by : (linked : Bool)
-        → AreLawful ((if linked then print c ∷ [] else handed_character at c) ++ rest (if linked then at else standing (held_character at c) (is_scheme_byte c) false) calls)
+        → AreLawful ((if linked then print c ∷ [] else handed_character at c) ++ rest (if linked then at else standing (held_character at c) (is_of_word c) false) calls)
     by true = (printed, go at stands)
     by false =
-        let next = standing (held_character at c) (is_scheme_byte c) false in
+        let next = standing (held_character at c) (is_of_word c) false in
         character-lawful at c stands.each (rest next calls) printed (go next (record { each = held-uri at c stands.each; none = λ is. absurd (false≢true is) }))
 
 -- call by call

@@ -1,6 +1,8 @@
 pub mod AddressLemmas
+pub mod CaseLemmas
 pub mod SchemeLemmas
 pub mod LinkerLemmas
+pub mod TargetLemmas
 pub mod HtmlLemmas
 pub mod TextLemmas
 pub mod ColonLemmas

@@ -4,7 +4,7 @@ use Rattle.std.proofs.lemmas.Bool.{false≢true}
 use Rattle.std.proofs.lemmas.List.{append_cancel_left}
 use Rattle.anstyle_parse.specs.Stream.Call.{Call, unhook}
 use Rattle.anstyle_parse.specs.Stream.Items.{EachIs}
-use Rattle.html_urls.specs.Addresses.{is_uri_byte, max_held, may_begin, joins_after, IsOffUri, IsRun}
+use Rattle.html_urls.specs.Addresses.{is_of_address, max_held, may_begin, joins_after, IsOffAddress, IsRun}
 use Rattle.html_urls.specs.Linked.{prints, linked_after}
 use Rattle.html_urls.specs.Found.{printed, Part, as_is, in_run, joins_call, AreFound, AreParts}
 use Rattle.html_urls.proofs.FrontLemmas.{head-of, tail-of, head-of-is, tail-of-is, no-begin-end}
@@ -13,8 +13,8 @@ use Rattle.html_urls.proofs.FrontLemmas.{head-of, tail-of, head-of-is, tail-of-i
 record Goes (most : ℕ) (text run : List ℕ) : Type 0 where
   behind : List ℕ
   joined : text ≡ run ++ behind
-  each : EachIs is_uri_byte run
-  ends : (length run ≡ most) ⊎ IsOffUri behind
+  each : EachIs is_of_address run
+  ends : (length run ≡ most) ⊎ IsOffAddress behind
   within : length run ≤ most
 
 goes-of : (text run : List ℕ) → IsRun text run → Goes max_held text run
@@ -27,14 +27,14 @@ none-only most text b run none some = by none.ends
     same : none.behind ≡ b ∷ (run ++ some.behind)
     same = sym none.joined ∙ some.joined
 
-    off-first : IsOffUri none.behind → is_uri_byte b ≡ false
-    off-first off = subst IsOffUri same off
+    off-first : IsOffAddress none.behind → is_of_address b ≡ false
+    off-first off = subst IsOffAddress same off
 
-    by : (0 ≡ most) ⊎ IsOffUri none.behind → [] ≡ b ∷ run
+    by : (0 ≡ most) ⊎ IsOffAddress none.behind → [] ≡ b ∷ run
     by (inl full) = let over = some.within in absurd (omega (arith, full, over))
     by (inr off) = absurd (false≢true (sym (off-first off) ∙ some.each.0))
 
-ends-less : (most : ℕ) (b : ℕ) (run behind : List ℕ) → (length (b ∷ run) ≡ suc most) ⊎ IsOffUri behind → (length run ≡ most) ⊎ IsOffUri behind
+ends-less : (most : ℕ) (b : ℕ) (run behind : List ℕ) → (length (b ∷ run) ≡ suc most) ⊎ IsOffAddress behind → (length run ≡ most) ⊎ IsOffAddress behind
 ends-less most b run behind (inl full) = inl (omega (arith, full))
 ends-less most b run behind (inr off) = inr off
 

@@ -6,7 +6,7 @@ use Rattle.std.proofs.lemmas.List.{map-append}
 use Rattle.std.proofs.lemmas.Grind.{flat_map-append}
 use Rattle.anstyle_parse.specs.Stream.Call.{Call, print, execute, hook, put, unhook, osc_dispatch, csi_dispatch, esc_dispatch}
 use Rattle.ansi_strip.specs.Strip.{stripped_call, stripped}
-use Rattle.html_urls.specs.Addresses.{is_scheme_byte, goes_on, address_of, behind_address, address_length, is_link}
+use Rattle.html_urls.specs.Addresses.{is_of_word, goes_on, address_of, behind_address, address_length, is_link}
 use Rattle.html_urls.specs.Linked.{Standing, standing, at_start, link_command, prints, released_as, released, begins, handed, standing_after, handed_from, left_from, linked}
 
 stripped-append : (calls more : List Call) → stripped (calls ++ more) ≡ stripped calls ++ stripped more
@@ -63,7 +63,7 @@ step-print at c holds = by at.is_linked refl (goes_on at.held c) (begins at c)
   where
     by : (l : Bool) → at.is_linked ≡ l → (on starts : Bool)
         → stripped (if l then print c ∷ [] else if on then [] else released at.held ++ (if starts then [] else print c ∷ []))
-        ++ stripped (prints (if l then at else standing (if on then at.held ++ c ∷ [] else if starts then c ∷ [] else []) (is_scheme_byte c) false).held)
+        ++ stripped (prints (if l then at else standing (if on then at.held ++ c ∷ [] else if starts then c ∷ [] else []) (is_of_word c) false).held)
         ≡ stripped (prints at.held) ++ encode_utf8 c
     by true is on starts =
         let none = ap (λ l. stripped (prints l)) (holds is) in

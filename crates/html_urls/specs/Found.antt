@@ -7,7 +7,7 @@ use Rattle.anstyle_parse.specs.Stream.Call.{Call, print}
 use Rattle.ansi_strip.specs.Strip.{stripped_call, stripped}
 use Rattle.ansi_html.specs.Links.{link_after}
 use Rattle.ansi_html.specs.Affordable.{spare_after, link_kept}
-use Rattle.html_urls.specs.Addresses.{is_scheme_byte, may_begin, joins_after, IsRun, address_of, behind_address, is_link}
+use Rattle.html_urls.specs.Addresses.{is_of_word, may_begin, joins_after, IsRun, address_of, behind_address, target_of, is_link}
 use Rattle.html_urls.specs.Linked.{prints, released, linked_after}
 
 -- the text that stands here: what is printed, up to the next call that is no print
@@ -22,7 +22,7 @@ pub data Part : Type 0 where
 
 -- whether a call prints a character of a scheme
 abbrev pub joins_call : Call → Bool
-joins_call (print c) = is_scheme_byte c
+joins_call (print c) = is_of_word c
 joins_call call = false
 
 -- The calls are these parts, one after another, and the addresses among them are found: each run begins where one may
@@ -50,13 +50,13 @@ with_link (in_run run) = released run
 abbrev pub hrefs_of : (link text : List ℕ) → List (List ℕ)
 hrefs_of link text = map (λ b. link) (stripped (prints text))
 
--- The link of each byte that is left of a stream: in an address that is the very text of it, in what else a run has
--- none, and elsewhere the one that the stream itself has there.
+-- The link of each byte that is left of a stream: in an address the one to it, in what else a run has none, and
+-- elsewhere the one that the stream itself has there.
 abbrev pub hrefs : (link : List ℕ) → List Part → List (List ℕ)
 hrefs link [] = []
 hrefs link (as_is call ∷ parts) = map (λ b. link) (stripped_call call) ++ hrefs (link_after call link) parts
 hrefs link (in_run run ∷ parts) =
-    hrefs_of (if is_link run then address_of run else []) (address_of run)
+    hrefs_of (if is_link run then target_of (address_of run) else []) (address_of run)
     ++ (hrefs_of [] (behind_address run) ++ hrefs [] parts)
 
 -- What is spare for links in lines, after characters that are printed.
@@ -71,7 +71,7 @@ hrefs_paid spare link [] = []
 hrefs_paid spare link (as_is call ∷ parts) =
     map (λ b. link) (stripped_call call) ++ hrefs_paid (spare_after call spare link) (link_kept call spare link) parts
 hrefs_paid spare link (in_run run ∷ parts) =
-    hrefs_of (if is_link run then address_of run else []) (address_of run)
+    hrefs_of (if is_link run then target_of (address_of run) else []) (address_of run)
     ++ (hrefs_of [] (behind_address run) ++ hrefs_paid (spare_with run spare) [] parts)
 
 -- in blocks, of text or of numbered lines

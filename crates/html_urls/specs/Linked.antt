@@ -1,8 +1,10 @@
 -- The calls of a stream in which addresses in its text are links (OSC 8).
-use Rattle.std.specs.Prelude.{ℕ, Bool, true, false, not, ◌&&◌, List, [], ◌∷◌, ◌++◌, codes, map, if◌then◌else◌}
+use Rattle.std.specs.Prelude.{ℕ, Bool, true, false, not, ◌&&◌, ◌==◌, List, [], ◌∷◌, ◌++◌, codes, map, if◌then◌else◌}
+use Rattle.std.specs.List.{slice_split}
+use Rattle.anstyle_parse.specs.Stream.Bytes.{semicolon}
 use Rattle.anstyle_parse.specs.Stream.Call.{Call, print, osc_dispatch}
 use Rattle.ansi_html.specs.Links.{is_none, is_link_command, uri_of}
-use Rattle.html_urls.specs.Addresses.{is_scheme_byte, begins_scheme, goes_on, address_of, behind_address, is_link}
+use Rattle.html_urls.specs.Addresses.{is_of_word, begins_scheme, goes_on, address_of, behind_address, target_of, is_link}
 
 -- Where a stream stands: what may become an address is held back; whether the last character is one of a scheme; and
 -- whether a link of the stream's own is open, whose text stays as it is.
@@ -17,9 +19,9 @@ standing held is_within is_linked = record { held = held; is_within = is_within;
 abbrev pub at_start : Standing
 at_start = standing [] false false
 
--- the command that begins a link to an address, or, of none, ends it
-abbrev pub link_command : (address : List ℕ) → Call
-link_command address = osc_dispatch (codes "8" ∷ [] ∷ address ∷ []) false
+-- the command that begins a link, parted at its separators as a parser would, or, of none, ends it
+abbrev pub link_command : (target : List ℕ) → Call
+link_command target = osc_dispatch (codes "8" ∷ [] ∷ slice_split (λ b. b == semicolon) target) false
 
 abbrev pub prints : List ℕ → List Call
 prints text = map print text
@@ -27,7 +29,7 @@ prints text = map print text
 -- What was held back, where it does not go on: as a link, if it is an address that was held whole, or as it is.
 abbrev pub released_as : (is_link : Bool) → (address behind text : List ℕ) → List Call
 released_as true address behind text =
-    link_command address ∷ prints address ++ (link_command [] ∷ prints behind)
+    link_command (target_of address) ∷ prints address ++ (link_command [] ∷ prints behind)
 released_as false address behind text = prints text
 
 abbrev pub released : (text : List ℕ) → List Call
@@ -58,7 +60,7 @@ handed at (print c) = if at.is_linked then print c ∷ [] else handed_character 
 handed at call = released at.held ++ call ∷ []
 
 abbrev pub standing_after : Standing → Call → Standing
-standing_after at (print c) = if at.is_linked then at else standing (held_character at c) (is_scheme_byte c) false
+standing_after at (print c) = if at.is_linked then at else standing (held_character at c) (is_of_word c) false
 standing_after at call = standing [] false (linked_after call at.is_linked)
 
 -- by calls, one after another

@@ -1,78 +1,149 @@
 //! Where an address begins in a text, how far it goes, and where it ends.
-ghost use Rattle.std.specs.Prelude.{◌≡◌, ◌≤◌, ◌==◌, length, take, drop, count_by};
-ghost use Rattle.std.specs.List.{list_all};
-ghost use Rattle.ansi_html.specs.Links.{has_scheme};
-ghost use Rattle.html_urls.specs.Addresses.{is_scheme_byte, is_uri_byte, begins_scheme, is_mark, is_unmatched, is_behind, ends_behind, address_length, is_whole_byte, is_address};
+ghost use Rattle.std.specs.Prelude.{◌≡◌, ◌≤◌, ◌==◌, IsTrue, false, nat_eq, length, take, drop, count_by};
+ghost use Rattle.std.specs.List.{starts_with};
+ghost use Rattle.html_urls.specs.Addresses.{is_of_word, is_of_uri, is_beyond_uri, is_of_address, in_small, says_scheme, begins_scheme, is_mark, is_unmatched, is_behind, ends_behind, opens_entity, closes_entity, parts_entity, goes_past, address_length, is_address};
 
-/// Whether the byte may stand in a scheme, so that none begins right after it.
-pub(crate) fn is_scheme_byte(byte: u8) -> bool
-    ensures { result ≡ is_scheme_byte byte }
+/// Whether the character may stand in a scheme, so that none begins right after it.
+pub(crate) fn is_of_word(c: char) -> bool
+    ensures { result ≡ is_of_word c }
 {
-    matches!(byte, b'0'..=b'9' | b'A'..=b'Z' | b'a'..=b'z' | b'+' | b'-' | b'.')
+    matches!(c, '0'..='9' | 'A'..='Z' | 'a'..='z' | '+' | '-' | '.')
 }
 
-/// Whether the byte may stand in a URI.
-pub(crate) fn is_uri_byte(byte: u8) -> bool
-    ensures { result ≡ is_uri_byte byte }
+/// Whether the character may stand in a URI.
+fn is_of_uri(c: char) -> bool
+    ensures { result ≡ is_of_uri c }
 {
     matches!(
-        byte,
-        b'!' | b'#'..=b';' | b'=' | b'?'..=b'[' | b']' | b'_' | b'a'..=b'z' | b'~'
+        c,
+        '!' | '#'..=';' | '=' | '?'..='[' | ']' | '_' | 'a'..='z' | '~'
     )
 }
 
+/// Whether the character, one beyond ASCII, may stand in an IRI.
+fn is_beyond_uri(c: char) -> bool
+    ensures { result ≡ is_beyond_uri c }
+{
+    matches!(
+        c,
+        '\u{A1}'..='\u{167F}'
+            | '\u{1681}'..='\u{1FFF}'
+            | '\u{200C}'..='\u{200D}'
+            | '\u{2010}'..='\u{2027}'
+            | '\u{2030}'..='\u{205E}'
+            | '\u{2070}'..='\u{24FF}'
+            | '\u{25A0}'..='\u{2FFF}'
+            | '\u{3001}'..='\u{D7FF}'
+            | '\u{F900}'..='\u{FDCF}'
+            | '\u{FDF0}'..='\u{FFEF}'
+            | '\u{10000}'..='\u{DFFFD}'
+    )
+}
+
+/// Whether the character may stand in an address, after its scheme.
+pub(crate) fn is_of_address(c: char) -> bool
+    ensures { result ≡ is_of_address c }
+{
+    is_of_uri(c) || is_beyond_uri(c)
+}
+
+/// Whether a text begins with this one in small letters, in letters of any case.
+pub(crate) fn begins_with(text: &[char], small: &[u8]) -> bool
+    ensures value { result ≡ starts_with nat_eq (in_small text.now) small.now }
+    ensures bound { IsTrue result → length small.now ≤ length text.now }
+{
+    match (small.split_first(), text.split_first()) {
+        (None, _) => true,
+        (Some(_), None) => false,
+        (Some((byte, rest)), Some((c, behind))) => {
+            char::from(*byte) == c.to_ascii_lowercase() && begins_with(behind, rest)
+        }
+    }
+}
+
+/// Whether this one in small letters begins with a text, in letters of any case.
+fn begins_as(small: &[u8], text: &[char]) -> bool
+    ensures { result ≡ starts_with nat_eq small.now (in_small text.now) }
+{
+    match (text.split_first(), small.split_first()) {
+        (None, _) => true,
+        (Some(_), None) => false,
+        (Some((c, behind)), Some((byte, rest))) => {
+            c.to_ascii_lowercase() == char::from(*byte) && begins_as(rest, behind)
+        }
+    }
+}
+
 /// Whether one of the three schemes begins with the text, or is it.
-#[tactic(auto, unfolding(crate::specs::Addresses::begins_scheme))]
-pub(crate) fn begins_scheme(text: &[u8]) -> bool
+#[tactic(auto, unfolding(crate::specs::Addresses::begins_small))]
+pub(crate) fn begins_scheme(text: &[char]) -> bool
     ensures { result ≡ begins_scheme text.now }
 {
-    b"https://".starts_with(text) || b"http://".starts_with(text) || b"mailto:".starts_with(text)
+    begins_as(b"https://", text) || begins_as(b"http://", text) || begins_as(b"mailto:", text)
 }
 
 /// Whether the text begins with one of the three schemes.
 #[tactic(auto, unfolding(ansi_html::specs::Links::has_scheme))]
-pub(crate) fn has_scheme(text: &[u8]) -> bool
-    ensures { result ≡ has_scheme text.now }
+pub(crate) fn says_scheme(text: &[char]) -> bool
+    ensures { result ≡ says_scheme text.now }
 {
-    text.starts_with(b"https://") || text.starts_with(b"http://") || text.starts_with(b"mailto:")
+    begins_with(text, b"https://") || begins_with(text, b"http://") || begins_with(text, b"mailto:")
 }
 
-/// Whether the byte is a mark that ends a sentence or a quote, which is no part of an address that it ends.
-fn is_mark(byte: u8) -> bool
-    ensures { result ≡ is_mark byte }
+/// Whether the character is a mark that ends a sentence, a quote or bold text, which is no part of an address that it
+/// ends.
+fn is_mark(c: char) -> bool
+    ensures { result ≡ is_mark c }
 {
-    matches!(byte, b'.' | b',' | b':' | b';' | b'!' | b'?' | b'\'')
+    matches!(
+        c,
+        '?' | '!'
+            | '.'
+            | ','
+            | ':'..=';'
+            | '*'
+            | '_'
+            | '~'
+            | '\''
+            | '«'
+            | '»'
+            | '\u{2010}'..='\u{205E}'
+            | '\u{3001}'..='\u{3003}'
+            | '\u{3008}'..='\u{301F}'
+            | '\u{FF01}'..='\u{FF0F}'
+            | '\u{FF1A}'..='\u{FF20}'
+    )
 }
 
-/// How often the byte stands in the text.
-fn count_of(text: &[u8], wanted: u8) -> usize
-    ensures { result ≡ count_by (λ b. b == wanted) text.now }
+/// How often the character stands in the text.
+fn count_of(text: &[char], wanted: char) -> usize
+    ensures { result ≡ count_by (λ c. c == wanted) text.now }
 {
-    text.iter().filter(|byte| **byte == wanted).count()
+    text.iter().filter(|c| **c == wanted).count()
 }
 
 /// Whether the text closes more brackets than it opens.
-fn is_unmatched(text: &[u8], opening: u8, closing: u8) -> bool
+fn is_unmatched(text: &[char], opening: char, closing: char) -> bool
     ensures { result ≡ is_unmatched text.now opening closing }
 {
     count_of(text, opening) < count_of(text, closing)
 }
 
-/// Whether the last byte of a text is no part of the address.
-fn is_behind(text: &[u8], last: u8) -> bool
+/// Whether the last character of a text is no part of the address.
+fn is_behind(text: &[char], last: char) -> bool
     ensures { result ≡ is_behind text.now last }
 {
-    if last == b')' {
-        is_unmatched(text, b'(', b')')
-    } else if last == b']' {
-        is_unmatched(text, b'[', b']')
+    if last == ')' {
+        is_unmatched(text, '(', ')')
+    } else if last == ']' {
+        is_unmatched(text, '[', ']')
     } else {
         is_mark(last)
     }
 }
 
 /// The same of a text that has one.
-fn ends_behind(text: &[u8]) -> bool
+fn ends_behind(text: &[char]) -> bool
     ensures { result ≡ ends_behind text.now }
 {
     match text.split_last() {
@@ -81,14 +152,61 @@ fn ends_behind(text: &[u8]) -> bool
     }
 }
 
-/// How many bytes of a text are the address.
-fn address_length(text: &[u8]) -> usize
+/// Whether `&` and letters or digits stand at the end of a text.
+fn opens_entity(text: &[char]) -> bool
+    ensures { result ≡ opens_entity false text.now }
+{
+    let mut opened = false;
+    let mut rest = text;
+    'text: while let Some((c, behind)) = rest.split_first() {
+        opened = *c == '&' || opened && c.is_ascii_alphanumeric();
+        rest = behind;
+    }
+    opened
+}
+
+/// Whether letters or digits stand first in a text, and then `;`.
+fn closes_entity(text: &[char]) -> bool
+    ensures { result ≡ closes_entity text.now }
+{
+    let mut rest = text;
+    'text: while let Some((c, behind)) = rest.split_first() {
+        if *c == ';' {
+            return true;
+        }
+        if !c.is_ascii_alphanumeric() {
+            return false;
+        }
+        rest = behind;
+    }
+    false
+}
+
+/// Whether what looks like an entity begins in a text and ends in what stands behind it.
+fn parts_entity(text: &[char], behind: &[char]) -> bool
+    ensures { result ≡ parts_entity text.now behind.now }
+{
+    closes_entity(behind)
+        && opens_entity(text)
+        && !(text.ends_with(&['&']) && behind.starts_with(&[';']))
+}
+
+/// Whether more than the address stands in a text, before what stands behind it.
+fn goes_past(text: &[char], behind: &[char]) -> bool
+    ensures { result ≡ goes_past text.now behind.now }
+{
+    ends_behind(text) || parts_entity(text, behind)
+}
+
+/// How many characters of a text are the address.
+fn address_length(text: &[char]) -> usize
     ensures length { result ≡ address_length (length text.now) text.now }
     ensures within { result ≤ length text.now }
 {
     let mut count = text.len();
     'count: while count > 0 {
-        if !ends_behind(&text[..count]) {
+        let (front, behind) = text.split_at(count);
+        if !goes_past(front, behind) {
             return count;
         }
         count -= 1;
@@ -97,31 +215,17 @@ fn address_length(text: &[u8]) -> usize
 }
 
 /// The address, and what stands after it.
-pub(crate) fn split_address(text: &[u8]) -> (&[u8], &[u8])
+pub(crate) fn split_address(text: &[char]) -> (&[char], &[char])
     ensures address { result.0.now ≡ take (address_length (length text.now) text.now) text.now }
     ensures behind { result.1.now ≡ drop (address_length (length text.now) text.now) text.now }
 {
     text.split_at(address_length(text))
 }
 
-/// Whether the byte may stand in an address that is linked to.
-fn is_whole_byte(byte: u8) -> bool
-    ensures { result ≡ is_whole_byte byte }
-{
-    is_uri_byte(byte) && byte != b';'
-}
-
-/// Whether all may.
-fn are_whole_bytes(text: &[u8]) -> bool
-    ensures { result ≡ list_all is_whole_byte text.now }
-{
-    text.iter().all(|byte| is_whole_byte(*byte))
-}
-
 /// Whether these are an address: a scheme, and more after it.
 #[tactic(auto, unfolding(crate::specs::Addresses::is_address))]
-pub(crate) fn is_address(text: &[u8]) -> bool
+pub(crate) fn is_address(text: &[char]) -> bool
     ensures { result ≡ is_address text.now }
 {
-    has_scheme(text) && !begins_scheme(text) && are_whole_bytes(text)
+    says_scheme(text) && !begins_scheme(text)
 }

@@ -1,7 +1,7 @@
 //! Where a scheme may end in a text, at a colon, and where one may begin before it.
 ghost use Rattle.std.specs.Prelude.{◌≡◌, ◌++◌, ◌∷◌, IfSome, IfNone, IsUtf8};
 ghost use Rattle.anstyle_parse.specs.Stream.Items.{EachIs};
-ghost use Rattle.html_urls.specs.Colon.{is_no_colon, is_of_scheme, is_end, EndsOff, StopsAtColon};
+ghost use Rattle.html_urls.specs.Colon.{is_no_colon, is_of_small, is_end, EndsOff, StopsAtColon};
 
 /// The byte with which each scheme ends, or which stands near its end.
 const COLON: u8 = b':';
@@ -35,9 +35,9 @@ fn from_colon(bytes: &[u8]) -> &[u8]
     rest
 }
 
-/// Whether the byte may stand in a scheme, before or after its colon.
-fn is_of_scheme(byte: u8) -> bool
-    ensures { result ≡ is_of_scheme byte }
+/// Whether the byte, a small letter if it is one, may stand in a scheme, before or after its colon.
+fn is_of_small(byte: u8) -> bool
+    ensures { result ≡ is_of_small byte }
 {
     matches!(
         byte,
@@ -49,7 +49,7 @@ fn is_of_scheme(byte: u8) -> bool
 fn is_end(byte: u8) -> bool
     ensures { result ≡ is_end byte }
 {
-    byte < 0x80 && !is_of_scheme(byte)
+    byte < 0x80 && !is_of_small(byte.to_ascii_lowercase())
 }
 
 /// A text as far as no scheme can begin at its end, and the rest.

@@ -1,16 +1,18 @@
 //! Laws of streams whose addresses are links. Each is the contract of a function that does nothing.
-ghost use Rattle.std.specs.Prelude.{◌≡◌, ◌++◌, ℕ, Bool, List, [], map};
+ghost use Rattle.std.specs.Prelude.{◌≡◌, ◌++◌, ℕ, Bool, List, [], map, nat_lt, IsTrue};
 ghost use Rattle.std.specs.List.{flat_map};
 ghost use Rattle.anstyle_parse.specs.Stream.Call.{Call};
+ghost use Rattle.anstyle_parse.specs.Stream.Items.{EachIs};
 ghost use Rattle.anstyle_parse.specs.Stream.Calls.{AreCalls};
 ghost use Rattle.anstyle_parse.specs.Laws.Lawful.{AreMade};
 ghost use Rattle.ansi_html.specs.declared.scheme.Styling.{Styling};
+ghost use Rattle.ansi_html.specs.Links.{has_scheme, is_visible};
 ghost use Rattle.ansi_html.specs.Html.{html};
 ghost use Rattle.ansi_html.specs.Lines.{lined_html};
 ghost use Rattle.ansi_html.specs.Blocks.{blocked_html};
 ghost use Rattle.ansi_html.specs.Reader.{href_of, read};
 ghost use Rattle.ansi_strip.specs.Strip.{stripped};
-ghost use Rattle.html_urls.specs.Addresses.{address_of, IsAddressOf};
+ghost use Rattle.html_urls.specs.Addresses.{is_of_address, address_of, target_of, IsAddressOf};
 ghost use Rattle.html_urls.specs.Linked.{linked};
 ghost use Rattle.html_urls.specs.Found.{Part, AreParts, with_link, hrefs, hrefs_paid, hrefs_in_blocks};
 ghost use Rattle.html_urls.specs.Html.{urls_text, urls_ending, lined_urls_text, lined_urls_ending, blocked_urls_text, blocked_urls_ending};
@@ -38,8 +40,7 @@ pub fn html_of_links()
         ≡ blocked_html numbered styling (linked calls) }
 {}
 
-/// The addresses in the text of a stream are found, and each is a link to the very text that it stands on; nothing else
-/// becomes one.
+/// The addresses in the text of a stream are found, and each is a link to what it says; nothing else becomes one.
 pub fn addresses()
     // A stream has parts in which each address is found; the calls of these parts are what is written as HTML.
     ensures found { (calls : List Call)
@@ -52,7 +53,12 @@ pub fn addresses()
     ensures only { (calls : List Call) (one other : List Part) → AreParts calls one → AreParts calls other
         → one ≡ other }
 
-    // A reader sees each byte of the text of an address in a link to that text, and each other one in the link that the
+    // Its link has it in ASCII; and the address itself, where that is of ASCII and its scheme has small letters.
+    ensures ascii { (address : List ℕ) → EachIs is_of_address address → EachIs is_visible (target_of address) }
+    ensures plain { (address : List ℕ) → IsTrue (has_scheme address) → EachIs (λ c. nat_lt c 0x80) address
+        → target_of address ≡ address }
+
+    // A reader sees each byte of the text of an address in the link to it, and each other one in the link that the
     // stream has there, or in none.
     ensures links { (styling : Styling) (calls : List Call) (parts : List Part) → AreParts calls parts
         → map href_of (read (html styling (linked calls))) ≡ hrefs [] parts }

@@ -12,6 +12,7 @@ mod colon;
 mod held;
 pub mod laws;
 mod linking;
+mod target;
 mod writing;
 
 pub use linking::Linking;

@@ -1,24 +1,28 @@
 //! The performer that makes links of addresses.
-ghost use Rattle.std.specs.Prelude.{◌≡◌, ◌≤◌, [], ◌∷◌, false, not, map, IfSome, if◌then◌else◌};
+ghost use Rattle.std.specs.Prelude.{◌≡◌, ◌≤◌, ◌==◌, [], ◌∷◌, true, false, not, map, count_by, IfSome, IfNone, if◌then◌else◌};
 ghost use Rattle.anstyle_parse.specs.Stream.Call.{Call, print};
 ghost use Rattle.anstyle_parse.specs.Stream.Texts.{text_calls};
 ghost use Rattle.anstyle_parse.specs.Stream.Items.{EachIs};
 ghost use Rattle.ansi_html.specs.Links.{is_none, is_link_command, uri_of};
+ghost use Rattle.anstyle_parse.specs.Stream.Bytes.{semicolon};
+ghost use Rattle.html_urls.specs.Addresses.{max_separators, address_of, target_of, is_link};
 ghost use Rattle.html_urls.specs.Linked.{Standing, at_start, standing, link_command, prints, released, begins, linked_after};
 ghost use Rattle.html_urls.specs.Colon.{is_no_colon, EndsOff};
 
-use crate::address::{begins_scheme, is_address, is_scheme_byte, split_address};
+use crate::address::{begins_scheme, is_address, is_of_word, split_address};
 use crate::colon::{split_at_colon, split_at_scheme};
 use crate::held::{Held, ROOM};
+use crate::target::{Target, link_parts, target_of};
 use ansi_html::is_link_command;
 use anstyle_parse::{Params, Perform, PerformText};
 
 /// Hands all calls on to a performer, and makes links (OSC 8) of the addresses in what is printed.
 ///
-/// An address begins with `https://`, `http://` or `mailto:` where no letter, digit, `+`, `-` or `.` stands right
-/// before it, and goes on with the characters of a URI. Marks at its end, and brackets that it does not open, are no
-/// part of it. It has at most 1,022 bytes, and no `;`. Text in a link of the stream's own stays as it is. Any call but
-/// a print ends an address. What may become one is held back until it ends.
+/// An address begins with `https://`, `http://` or `mailto:`, in letters of any case, where no letter, digit, `+`, `-`
+/// or `.` stands right before it, and goes on with the characters of a URI or an IRI. Marks at its end, brackets that it
+/// does not open, and what looks like an entity are no part of it. Its link has at most 1,022 bytes, three for each byte
+/// of a character beyond ASCII, and twelve `;`. Text in a link of the stream's own stays as it is. Any call but a print
+/// ends an address. What may become one is held back until it ends.
 #[derive(Drop)]
 pub struct Linking<P> {
     pub(crate) performer: P,
@@ -29,34 +33,52 @@ pub struct Linking<P> {
     is_linked: bool,
 }
 
-/// Hands on bytes as characters that are printed.
-fn print_bytes<P: PerformText>(performer: &mut P, bytes: &[u8])
-    ensures { P.receives performer.old (prints bytes.now) performer.new }
+/// Hands on characters that are printed.
+fn print_each<P: PerformText>(performer: &mut P, text: &[char])
+    ensures { P.receives performer.old (prints text.now) performer.new }
 {
-    for byte in bytes {
-        performer.print(char::from(*byte));
+    for c in text {
+        performer.print(*c);
     }
 }
 
-/// Begins a link to an address, or, of none, ends it.
-fn select_link<P: PerformText>(performer: &mut P, address: &[u8])
-    ensures { P.receives performer.old (link_command address.now ∷ []) performer.new }
+/// Begins a link, or, of none, ends it.
+fn select_link<P: PerformText>(performer: &mut P, target: &[u8])
+    requires few { count_by (λ b. b == semicolon) target.now ≤ max_separators }
+    ensures { P.receives performer.old (link_command target.now ∷ []) performer.new }
 {
-    performer.osc_dispatch(&[b"8", b"", address], false);
+    let (parts, count) = link_parts(target);
+    performer.osc_dispatch(&parts[..count], false);
+}
+
+/// What the link has of what was held back, where its front is this address, if that is one and was held whole.
+fn link_of(text: &[char], address: &[char]) -> Option<Target>
+    requires { address.now ≡ address_of text.now }
+    ensures target { IfSome result (λ target. target.items ≡ target_of address.now) }
+    ensures few { IfSome result (λ target. count_by (λ b. b == semicolon) target.items ≤ max_separators) }
+    ensures link { IfSome result (λ _. is_link text.now ≡ true) }
+    ensures none { IfNone result (is_link text.now ≡ false) }
+{
+    if text.len() < ROOM && is_address(address) {
+        target_of(address)
+    } else {
+        None
+    }
 }
 
 /// Hands on what was held back: as a link, if it is an address that was held whole, or as it is.
-fn hand_on<P: PerformText>(performer: &mut P, text: &[u8])
+fn hand_on<P: PerformText>(performer: &mut P, text: &[char])
     ensures { P.receives performer.old (released text.now) performer.new }
 {
     let (address, behind) = split_address(text);
-    if text.len() < ROOM && is_address(address) {
-        select_link(performer, address);
-        print_bytes(performer, address);
-        select_link(performer, b"");
-        print_bytes(performer, behind);
-    } else {
-        print_bytes(performer, text);
+    match link_of(text, address) {
+        Some(target) => {
+            select_link(performer, target.as_slice());
+            print_each(performer, address);
+            select_link(performer, b"");
+            print_each(performer, behind);
+        }
+        None => print_each(performer, text),
     }
 }
 
@@ -118,47 +140,36 @@ impl<P: PerformText> Linking<P> {
         self.is_within = false;
     }
 
-    /// Whether an address may begin with the byte.
-    fn begins(&self, byte: u8) -> bool
-        ensures { result ≡ begins (standing_of self.now) byte }
+    /// Whether an address may begin with the character.
+    fn begins(&self, c: char) -> bool
+        ensures { result ≡ begins (standing_of self.now) c }
     {
-        !self.is_within && begins_scheme(&[byte])
+        !self.is_within && begins_scheme(&[c])
     }
 
-    /// A character of one byte is printed, where nothing is held: it is, or it is handed on.
-    fn take_first(&mut self, byte: u8)
-        ensures { Begins P.receives self.old byte self.new }
+    /// A character is printed, where nothing is held: it is, or it is handed on.
+    fn take_first(&mut self, c: char)
+        ensures { Begins P.receives self.old c self.new }
     {
-        if self.begins(byte) {
-            self.held.begin(byte);
+        if self.begins(c) {
+            self.held.begin(c);
         } else {
-            self.performer.print(char::from(byte));
+            self.performer.print(c);
         }
     }
 
-    /// A character of one byte is printed, where no link of the stream's own is open.
-    fn take_byte(&mut self, byte: u8)
+    /// A character is printed, where no link of the stream's own is open.
+    fn take_character(&mut self, c: char)
         requires { (standing_of self.old).is_linked ≡ false }
-        ensures { TakesCall P.receives self.old (print byte) self.new }
-    {
-        if self.held.take(byte) {
-            self.is_within = is_scheme_byte(byte);
-        } else {
-            self.release();
-            self.take_first(byte);
-            self.is_within = is_scheme_byte(byte);
-        }
-    }
-
-    /// Any other character is printed there, which is part of no address.
-    fn take_other(&mut self, c: char)
-        requires unlinked { (standing_of self.old).is_linked ≡ false }
-        requires other { 0x80 ≤ c }
         ensures { TakesCall P.receives self.old (print c) self.new }
     {
-        self.release();
-        self.performer.print(c);
-        self.is_within = false;
+        if self.held.take(c) {
+            self.is_within = is_of_word(c);
+        } else {
+            self.release();
+            self.take_first(c);
+            self.is_within = is_of_word(c);
+        }
     }
 
     /// A text is printed, character by character.
@@ -180,7 +191,7 @@ impl<P: PerformText> Linking<P> {
     {
         if let Some((last, _)) = front.as_bytes().split_last() {
             self.performer.print_text(front);
-            self.is_within = is_scheme_byte(*last);
+            self.is_within = is_of_word(char::from(*last));
         }
     }
 
@@ -211,7 +222,7 @@ impl<P: PerformText> Linking<P> {
             let Some(behind) = found else {
                 break;
             };
-            self.take_byte(b':');
+            self.take_character(':');
             rest = behind;
         }
     }
@@ -223,13 +234,10 @@ impl<P: PerformText> Perform for Linking<P> {
     ghost means = { TakesCall P.receives };
 
     fn print(&mut self, c: char) {
-        let number = u32::from(c);
         if self.is_linked {
             self.performer.print(c);
-        } else if number < 0x80 {
-            self.take_byte(number as u8);
         } else {
-            self.take_other(c);
+            self.take_character(c);
         }
     }
 

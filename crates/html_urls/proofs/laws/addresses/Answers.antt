@@ -2,6 +2,7 @@ use Rattle.html_urls.proofs.AddressLemmas.{address-is}
 use Rattle.html_urls.proofs.FoundLemmas.{found-linked}
 use Rattle.html_urls.proofs.OnlyLemmas.{parts-only}
 use Rattle.html_urls.proofs.HrefLemmas.{html-hrefs, lined-hrefs, blocked-hrefs}
+use Rattle.html_urls.proofs.TargetLemmas.{target-visible, target-plain}
 use Rattle.html_urls.proofs.laws.addresses.Goals as goal
 
 pub returns-clause-found : goal.returns-clause-found
@@ -21,3 +22,9 @@ returns-clause-blocked c = λ numbered styling calls parts are. blocked-hrefs st
 
 pub returns-clause-address : goal.returns-clause-address
 returns-clause-address c = address-is
+
+pub returns-clause-ascii : goal.returns-clause-ascii
+returns-clause-ascii c = target-visible
+
+pub returns-clause-plain : goal.returns-clause-plain
+returns-clause-plain c = target-plain

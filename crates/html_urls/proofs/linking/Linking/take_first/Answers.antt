@@ -9,7 +9,7 @@ use Rattle.html_urls.proofs.linking.Linking.take_first.Goals as goal
 pub returns-then-begins : goal.returns-then-begins
 returns-then-begins g c =
     let it = c.args.self.now in
-    let b = c.args.byte in
+    let b = c.args.c in
     let starts = sym c.begins.ensures ∙ c.if-begins.true in
     record {
       standing = ap (λ (held : List ℕ). standing held it.is_within it.is_linked)
@@ -21,11 +21,10 @@ returns-then-begins g c =
 pub returns-else-begins : goal.returns-else-begins
 returns-else-begins g c =
     let it = c.args.self.now in
-    let b = c.args.byte in
+    let b = c.args.c in
     let starts = sym c.begins.ensures ∙ c.if-begins.false in
     record {
       standing = sym (ap (λ (t : Bool). standing (if t then b ∷ [] else (standing_of it).held) it.is_within it.is_linked) starts);
       received = subst (λ (t : Bool). g.P.PerformText.receives (performer_in it) (if t then [] else print b ∷ []) c.print.new.self) (sym starts)
-          (g.met.P.PerformText.follows.one (performer_in it) (print b) c.print.new.self
-          (subst (λ (k : ℕ). g.P.Perform.means (performer_in it) (print k) c.print.new.self) c.from.ensures c.print.ensures));
+          (g.met.P.PerformText.follows.one (performer_in it) (print b) c.print.new.self c.print.ensures);
     }

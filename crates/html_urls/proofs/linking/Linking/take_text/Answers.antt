@@ -23,8 +23,8 @@ rest-init g c = record {
   unlinked = c.requires;
 }
 
-pub take_byte-requires : goal.take_byte-requires
-take_byte-requires g c =
+pub take_character-requires : goal.take_character-requires
+take_character-requires g c =
     ap (λ (it : Standing). it.is_linked) c.take_piece.ensures.standing
     ∙ unlinked-prints (chars c.split_at_colon.result.0.now) (standing_of c.rest.self) c.rest.invariant.unlinked
 
@@ -42,11 +42,11 @@ rest-preserved g c =
     let both = IsUtf8-append so_far.passed piece so_far.utf8 piece_utf8 in
     let colon : List ℕ = 0x3A ∷ [] in
     let mid = c.take_piece.new.self in
-    let end = c.take_byte.new.self in
+    let end = c.take_character.new.self in
     let unlinked : (standing_of mid).is_linked ≡ false =
     ap (λ (it : Standing). it.is_linked) c.take_piece.ensures.standing ∙ unlinked-prints (chars piece) (standing_of c.rest.self) so_far.unlinked in
     let before = more first c.rest.self mid (text_calls so_far.passed) (text_calls piece) so_far.taken c.take_piece.ensures in
-    let one = Takes-one r mid (print 0x3A) end c.take_byte.ensures in
+    let one = Takes-one r mid (print 0x3A) end c.take_character.ensures in
     record {
       passed = (so_far.passed ++ piece) ++ colon;
       utf8 = IsUtf8-append (so_far.passed ++ piece) colon both (IsUtf8-byte 0x3A low);

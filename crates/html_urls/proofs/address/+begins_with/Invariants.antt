@@ -1,0 +1,6 @@
+-- The text gets shorter.
+use Rattle.std.proofs.Common.{length}
+use Rattle.html_urls.proofs.address.+begins_with.Given as goal
+
+abbrev pub decreases-begins_with : goal.decreases-begins_with
+decreases-begins_with l = length l.text.now

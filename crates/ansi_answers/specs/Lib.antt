@@ -1,0 +1,5 @@
+pub mod Text
+pub mod Sequences
+pub mod Settings
+pub mod Commands
+pub mod Waiting

@@ -1,0 +1,4 @@
+pub mod CallLemmas
+pub mod ByteLemmas
+pub mod ReadLemmas
+pub mod BlindLemmas

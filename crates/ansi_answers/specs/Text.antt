@@ -47,10 +47,10 @@ hex_digit n = if nat_lt n 10 then 0x30 + n else 0x61 + (n - 10)
 abbrev pub channel_text : ℕ → List ℕ
 channel_text n = hex_digit (n / 16) ∷ hex_digit (n % 16) ∷ hex_digit (n / 16) ∷ hex_digit (n % 16) ∷ []
 
--- ; rgb : RRRR / GGGG / BBBB
+-- rgb : RRRR / GGGG / BBBB
 abbrev pub color_text : Rgb → List ℕ
 color_text color =
-    (0x3B ∷ 0x72 ∷ 0x67 ∷ 0x62 ∷ 0x3A ∷ []) ++ (channel_text color.red ++ ((0x2F ∷ [])
+    (0x72 ∷ 0x67 ∷ 0x62 ∷ 0x3A ∷ []) ++ (channel_text color.red ++ ((0x2F ∷ [])
     ++ (channel_text color.green ++ ((0x2F ∷ []) ++ channel_text color.blue))))
 
 -- BEL or ST
@@ -58,7 +58,7 @@ abbrev pub end_text : (bell : Bool) → List ℕ
 end_text bell = if bell then 0x07 ∷ [] else 0x1B ∷ 0x5C ∷ []
 
 abbrev pub colored_text : (before : List ℕ) (n : ℕ) → Rgb → (bell : Bool) → List ℕ
-colored_text before n color bell = before ++ (decimal n ++ (color_text color ++ end_text bell))
+colored_text before n color bell = before ++ (decimal n ++ ((0x3B ∷ []) ++ (color_text color ++ end_text bell)))
 
 abbrev pub answer_text : Answer → List ℕ
 -- ESC [ 0 n

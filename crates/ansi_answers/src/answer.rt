@@ -1,7 +1,7 @@
 //! An answer, by its numbers, and its bytes.
 ghost use Rattle.std.specs.Prelude.{◌≡◌, ◌≤◌, ◌<◌, length};
 ghost use Rattle.anstyle_parse.specs.Io.Output.{Adds};
-ghost use Rattle.ansi_answers.specs.Text.{state_number, paint_number, with_one, with_two, hex_digit, channel_text, color_text, end_text, colored_text, answer_text, max_answer};
+ghost use Rattle.ansi_answers.specs.Text.{state_number, state_of, paint_number, with_one, with_two, hex_digit, channel_text, color_text, end_text, colored_text, answer_text, max_answer};
 
 use ansi_modes::Rgb;
 use anstyle_parse::io::{Output, Sink};
@@ -175,7 +175,7 @@ fn channel_text(value: u8) -> [u8; 4]
 fn put_color<W: Sink>(output: &mut Output<W>, color: Rgb)
     ensures { Adds W.Sink (color_text color) output.old output.new }
 {
-    output.put(b";rgb:");
+    output.put(b"rgb:");
     output.put(&channel_text(color.red));
     output.put_byte(b'/');
     output.put(&channel_text(color.green));
@@ -196,6 +196,7 @@ fn put_colored<W: Sink>(output: &mut Output<W>, before: &[u8], number: u16, colo
 {
     output.put(before);
     output.put_decimal(number);
+    output.put_byte(b';');
     put_color(output, color);
     output.put(end_text(bell));
 }

@@ -7,6 +7,7 @@
 mod answer;
 mod color;
 mod facts;
+pub mod laws;
 mod request;
 mod sequence;
 mod waiting;

@@ -8,7 +8,7 @@ use Rattle.ansi_modes.specs.Fields.{first_of, number_of}
 use Rattle.ansi_answers.specs.declared.facts.Facts.{Facts}
 use Rattle.ansi_answers.specs.declared.color.Theme.{Theme}
 use Rattle.ansi_answers.specs.declared.request.Request.{Request}
-use Rattle.ansi_answers.specs.declared.request.Request.TheVariants.{Nothing, Begun, Margins, Space, Shape, Other}
+use Rattle.ansi_answers.specs.declared.request.Request.TheVariants.{Nothing, Begun, Rendition, Margins, Space, Shape, Other}
 use Rattle.ansi_answers.specs.declared.answer.Paint.{Paint}
 use Rattle.ansi_answers.specs.declared.answer.Paint.TheVariants.{Foreground, Background, Cursor}
 use Rattle.ansi_answers.specs.declared.answer.Answer.{Answer}
@@ -45,6 +45,7 @@ sequence-core (mark ∷ other ∷ another ∷ marks) final n f a = refl
 setting-core : (request : Request) (f : Facts) (a : Asked) → setting_answer request f a ≡ setting_answer request f (core a)
 setting-core Nothing f a = refl
 setting-core Begun f a = refl
+setting-core Rendition f a = refl
 setting-core Margins f a = refl
 setting-core Space f a = refl
 setting-core Shape f a = refl

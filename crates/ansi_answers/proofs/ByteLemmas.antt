@@ -17,9 +17,10 @@ use Rattle.ansi_answers.specs.declared.answer.ModeState.TheVariants.{Unknown, Se
 use Rattle.ansi_answers.specs.declared.answer.Paint.{Paint}
 use Rattle.ansi_answers.specs.declared.answer.Paint.TheVariants.{Foreground, Background, Cursor}
 use Rattle.ansi_answers.specs.declared.answer.Answer.{Answer}
-use Rattle.ansi_answers.specs.declared.answer.Answer.TheVariants.{AllIsWell, CursorPosition, ExtendedPosition, PrimaryAttributes, SecondaryAttributes, TertiaryAttributes, Version, Mode, PrivateMode, Margins, CursorShape, NoSetting, Size, KeyFlags, PaletteColor, PaintColor}
-use Rattle.ansi_answers.specs.Text.{state_number, paint_number, with_one, with_two, hex_digit, channel_text, color_text, end_text, colored_text, answer_text, max_answer}
-use Rattle.ansi_answers.specs.Calls.{is_answer_byte, HasBytes, IsBounded}
+use Rattle.ansi_answers.specs.declared.answer.Answer.TheVariants.{AllIsWell, CursorPosition, ExtendedPosition, PrimaryAttributes, SecondaryAttributes, TertiaryAttributes, Version, Mode, PrivateMode, Rendition, Margins, CursorShape, NoSetting, Size, KeyFlags, PaletteColor, PaintColor}
+use Rattle.ansi_answers.specs.Text.{state_number, paint_number, with_one, with_two, hex_digit, channel_text, color_text, end_text, colored_text, selection_text, answer_text, max_answer}
+use Rattle.ansi_answers.specs.Calls.{is_answer_byte, AreBytes, IsBounded}
+use Rattle.ansi_answers.proofs.RenditionLemmas.{selection-bytes, selection-few}
 
 digit-byte : (b : ℕ) → is_digit b ≡ true → is_answer_byte b ≡ true
 unfolding is_digit is_answer_byte is_within
@@ -47,7 +48,7 @@ module _ (test : ℕ → Bool) (of_hex : (b : ℕ) → is_hex b ≡ true → tes
       let low = of_hex (hex_digit (n % 16)) (hex-is (n % 16) (low-few n)) in
       (high, (low, (high, (low, tt))))
 
-  pub color-each : (color : Rgb) → HasBytes color → EachIs test (color_text color)
+  pub color-each : (color : Rgb) → AreBytes color → EachIs test (color_text color)
   color-each color few =
       EachIs-append test (0x72 ∷ 0x67 ∷ 0x62 ∷ 0x3A ∷ []) _ name
       (EachIs-append test (channel_text color.red) _ (channel-each color.red few.0) (EachIs-append test (0x2F ∷ []) _ (slash, tt)
@@ -65,7 +66,7 @@ hex-byte : (b : ℕ) → is_hex b ≡ true → is_answer_byte b ≡ true
 unfolding is_hex is_answer_byte is_within
 hex-byte b e = hex-implies is_answer_byte refl b e
 
-color-bytes : (color : Rgb) → HasBytes color → EachIs is_answer_byte (color_text color)
+color-bytes : (color : Rgb) → AreBytes color → EachIs is_answer_byte (color_text color)
 unfolding is_answer_byte is_within
 color-bytes color few = color-each is_answer_byte hex-byte refl (refl, (refl, (refl, (refl, tt)))) color few
 
@@ -90,7 +91,7 @@ unfolding is_answer_byte is_within
 end-bytes true = (refl, tt)
 end-bytes false = (refl, (refl, tt))
 
-colored-bytes : (before : List ℕ) (n : ℕ) (color : Rgb) (bell : Bool) → n ≤ max_field → HasBytes color → EachIs is_answer_byte before
+colored-bytes : (before : List ℕ) (n : ℕ) (color : Rgb) (bell : Bool) → n ≤ max_field → AreBytes color → EachIs is_answer_byte before
     → EachIs is_answer_byte (colored_text before n color bell)
 colored-bytes before n color bell few small first =
     join before _ first (join (decimal n) _ (decimal-bytes n few) (join (0x3B ∷ []) _ semicolon-byte
@@ -125,6 +126,9 @@ answer-bytes (Mode number state) few =
 answer-bytes (PrivateMode number state) few =
     two-bytes (0x1B ∷ 0x5B ∷ 0x3F ∷ []) number (state_number state) (0x24 ∷ 0x79 ∷ []) few (omega (arith, state-few state))
     (refl, (refl, (refl, tt))) (refl, (refl, tt))
+answer-bytes (Rendition style) few =
+    join (0x1B ∷ 0x50 ∷ 0x31 ∷ 0x24 ∷ 0x72 ∷ []) _ (refl, (refl, (refl, (refl, (refl, tt)))))
+    (join (selection_text style) (0x1B ∷ 0x5C ∷ []) (selection-bytes style few.0 few.1) (refl, (refl, tt)))
 answer-bytes (Margins top bottom) few =
     two-bytes (0x1B ∷ 0x50 ∷ 0x31 ∷ 0x24 ∷ 0x72 ∷ []) top bottom (0x72 ∷ 0x1B ∷ 0x5C ∷ []) few.0 few.1
     (refl, (refl, (refl, (refl, (refl, tt))))) (refl, (refl, (refl, tt)))
@@ -191,6 +195,8 @@ answer-few (Mode number state) few =
     two-few (0x1B ∷ 0x5B ∷ []) number (state_number state) (0x24 ∷ 0x79 ∷ []) few (omega (arith, state-few state)) (omega arith)
 answer-few (PrivateMode number state) few =
     two-few (0x1B ∷ 0x5B ∷ 0x3F ∷ []) number (state_number state) (0x24 ∷ 0x79 ∷ []) few (omega (arith, state-few state)) (omega arith)
+answer-few (Rendition style) few =
+    omega (arith, selection-few style few.0 few.1, length-append (selection_text style) (0x1B ∷ 0x5C ∷ []))
 answer-few (Margins top bottom) few =
     two-few (0x1B ∷ 0x50 ∷ 0x31 ∷ 0x24 ∷ 0x72 ∷ []) top bottom (0x72 ∷ 0x1B ∷ 0x5C ∷ []) few.0 few.1 (omega arith)
 answer-few (CursorShape number) few =

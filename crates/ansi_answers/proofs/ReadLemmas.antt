@@ -18,9 +18,10 @@ use Rattle.anstyle_parse.proofs.Resume.Fields.{length-field}
 use Rattle.ansi_modes.specs.declared.colors.Rgb.{Rgb}
 use Rattle.ansi_modes.specs.Colors.{is_hex}
 use Rattle.ansi_answers.specs.declared.answer.Answer.{Answer}
-use Rattle.ansi_answers.specs.declared.answer.Answer.TheVariants.{AllIsWell, CursorPosition, ExtendedPosition, PrimaryAttributes, SecondaryAttributes, TertiaryAttributes, Version, Mode, PrivateMode, Margins, CursorShape, NoSetting, Size, KeyFlags, PaletteColor, PaintColor}
-use Rattle.ansi_answers.specs.Text.{state_number, paint_number, with_one, with_two, color_text, end_text, answer_text}
-use Rattle.ansi_answers.specs.Calls.{one, sequence, string, command, setting, answer_calls, HasBytes, IsBounded, is_answer_byte}
+use Rattle.ansi_answers.specs.declared.answer.Answer.TheVariants.{AllIsWell, CursorPosition, ExtendedPosition, PrimaryAttributes, SecondaryAttributes, TertiaryAttributes, Version, Mode, PrivateMode, Rendition, Margins, CursorShape, NoSetting, Size, KeyFlags, PaletteColor, PaintColor}
+use Rattle.ansi_answers.specs.Text.{state_number, paint_number, with_one, with_two, color_text, end_text, selection_text, answer_text}
+use Rattle.ansi_answers.specs.Calls.{one, sequence, string, command, setting, answer_calls, AreBytes, IsBounded, is_answer_byte}
+use Rattle.ansi_answers.proofs.RenditionLemmas.{selection-put}
 use Rattle.ansi_answers.proofs.CallLemmas.{AreCalls-sequence, AreCalls-string, AreCalls-command}
 use Rattle.ansi_answers.proofs.ByteLemmas.{state-few, paint-few, color-each, hex-implies, length-color}
 
@@ -127,12 +128,12 @@ hex-stored : (b : ℕ) → is_hex b ≡ true → is_stored b ≡ true
 unfolding is_hex is_stored is_kept is_within
 hex-stored b e = hex-implies is_stored refl b e
 
-color-stored : (color : Rgb) → HasBytes color → EachIs is_stored (color_text color)
+color-stored : (color : Rgb) → AreBytes color → EachIs is_stored (color_text color)
 unfolding is_stored is_kept is_within
 color-stored color few = color-each is_stored hex-stored refl (refl, (refl, (refl, (refl, tt)))) color few
 
 -- the parts of a colour's command
-AreParts-two : (number : ℕ) (color : Rgb) → number ≤ max_field → HasBytes color → AreParts (decimal number ∷ color_text color ∷ [])
+AreParts-two : (number : ℕ) (color : Rgb) → number ≤ max_field → AreBytes color → AreParts (decimal number ∷ color_text color ∷ [])
 AreParts-two number color few small = record {
   some_part = omega arith;
   parts_fit = omega arith;
@@ -145,7 +146,7 @@ four-stored : EachIs is_stored (0x34 ∷ [])
 unfolding is_stored is_kept is_within
 four-stored = (refl, tt)
 
-AreParts-three : (number : ℕ) (color : Rgb) → number ≤ max_field → HasBytes color → AreParts ((0x34 ∷ []) ∷ decimal number ∷ color_text color ∷ [])
+AreParts-three : (number : ℕ) (color : Rgb) → number ≤ max_field → AreBytes color → AreParts ((0x34 ∷ []) ∷ decimal number ∷ color_text color ∷ [])
 AreParts-three number color few small = record {
   some_part = omega arith;
   parts_fit = omega arith;
@@ -194,6 +195,7 @@ answer-read (Mode number state) few =
 answer-read (PrivateMode number state) few =
     pair-read (0x3F ∷ 0x24 ∷ []) 0x79 number (state_number state) _
     (IsHeaderCall-two (0x3F ∷ 0x24 ∷ []) 0x79 (omega arith) (refl, tt) refl number (state_number state) few (omega (arith, state-few state))) refl
+answer-read (Rendition style) few = setting-read (selection_text style) (selection-put style few.0 few.1)
 answer-read (Margins top bottom) few =
     subst (λ l. AreCalls (0x1B ∷ 0x50 ∷ 0x31 ∷ 0x24 ∷ 0x72 ∷ l) (answer_calls (Margins top bottom))) (margins-text top bottom)
     (setting-read (decimal top ++ ((0x3B ∷ []) ++ (decimal bottom ++ 0x72 ∷ []))) (margins-put top bottom few.0 few.1))

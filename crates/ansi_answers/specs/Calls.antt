@@ -3,10 +3,11 @@ use Rattle.std.specs.Prelude.{ℕ, ◌≤◌, ◌<◌, Bool, false, ◌||◌, �
 use Rattle.anstyle_parse.specs.Stream.Bytes.{is_within}
 use Rattle.anstyle_parse.specs.Stream.Arguments.{max_field}
 use Rattle.anstyle_parse.specs.Stream.Call.{Call, hook, put, unhook, osc_dispatch, csi_dispatch, esc_dispatch}
+use Rattle.ansi_style.specs.Style.{HasBytes}
 use Rattle.ansi_modes.specs.declared.colors.Rgb.{Rgb}
 use Rattle.ansi_answers.specs.declared.answer.Answer.{Answer}
-use Rattle.ansi_answers.specs.declared.answer.Answer.TheVariants.{AllIsWell, CursorPosition, ExtendedPosition, PrimaryAttributes, SecondaryAttributes, TertiaryAttributes, Version, Mode, PrivateMode, Margins, CursorShape, NoSetting, Size, KeyFlags, PaletteColor, PaintColor}
-use Rattle.ansi_answers.specs.Text.{state_number, paint_number, color_text}
+use Rattle.ansi_answers.specs.declared.answer.Answer.TheVariants.{AllIsWell, CursorPosition, ExtendedPosition, PrimaryAttributes, SecondaryAttributes, TertiaryAttributes, Version, Mode, PrivateMode, Rendition, Margins, CursorShape, NoSetting, Size, KeyFlags, PaletteColor, PaintColor}
+use Rattle.ansi_answers.specs.Text.{state_number, paint_number, color_text, selection_text}
 
 -- a byte of an answer: ESC, BEL, and ASCII that is printed
 unfoldable pub is_answer_byte : ℕ → Bool
@@ -47,6 +48,7 @@ answer_calls Version =
 answer_calls (Mode number state) = sequence (one number ∷ one (state_number state) ∷ []) (0x24 ∷ []) 0x79
 answer_calls (PrivateMode number state) =
     sequence (one number ∷ one (state_number state) ∷ []) (0x3F ∷ 0x24 ∷ []) 0x79
+answer_calls (Rendition style) = setting (selection_text style)
 answer_calls (Margins top bottom) = setting (decimal top ++ ((0x3B ∷ []) ++ (decimal bottom ++ 0x72 ∷ [])))
 answer_calls (CursorShape number) = setting (decimal number ++ 0x20 ∷ 0x71 ∷ [])
 answer_calls NoSetting = string (one 0 ∷ []) (0x24 ∷ []) 0x72 []
@@ -56,18 +58,19 @@ answer_calls (PaletteColor index color bell) = command ((0x34 ∷ []) ∷ decima
 answer_calls (PaintColor paint color bell) = command (decimal (paint_number paint) ∷ color_text color ∷ []) bell
 
 -- the bounds of its numbers, which all values of the type have
-abbrev pub HasBytes : Rgb → Type 0
-HasBytes color = (color.red < 256) × (color.green < 256) × (color.blue < 256)
+abbrev pub AreBytes : Rgb → Type 0
+AreBytes color = (color.red < 256) × (color.green < 256) × (color.blue < 256)
 
 abbrev pub IsBounded : Answer → Type 0
 IsBounded (CursorPosition row column) = (row ≤ max_field) × (column ≤ max_field)
 IsBounded (ExtendedPosition row column) = (row ≤ max_field) × (column ≤ max_field)
 IsBounded (Mode number state) = number ≤ max_field
 IsBounded (PrivateMode number state) = number ≤ max_field
+IsBounded (Rendition style) = HasBytes style.foreground × HasBytes style.background
 IsBounded (Margins top bottom) = (top ≤ max_field) × (bottom ≤ max_field)
 IsBounded (CursorShape number) = number ≤ max_field
 IsBounded (Size rows columns) = (rows ≤ max_field) × (columns ≤ max_field)
 IsBounded (KeyFlags flags) = flags ≤ max_field
-IsBounded (PaletteColor index color bell) = (index < 256) × HasBytes color
-IsBounded (PaintColor paint color bell) = HasBytes color
+IsBounded (PaletteColor index color bell) = (index < 256) × AreBytes color
+IsBounded (PaintColor paint color bell) = AreBytes color
 IsBounded answer = ⊤

@@ -2,16 +2,19 @@
 --
 -- Sources: xterm's ctlseqs, "Functions using CSI" (DSR, DA, DECRQM, XTVERSION, XTWINOPS), "Device-Control functions"
 -- (DECRQSS) and "Operating System Commands" (4, 10 to 12); ECMA-48, 8.3.14 (CPR), 8.3.35 (DSR); the VT510 manual
--- (DECXCPR, DA1 to DA3, DECRPM, DECRPSS); XParseColor(3), "RGB Device String Specification"; kitty's page on keys. That
--- eight bits of a colour are told as sixteen, the same twice: xterm 379.
+-- (DECXCPR, DA1 to DA3, DECRPM, DECRPSS); XParseColor(3), "RGB Device String Specification"; kitty's page on keys.
+-- Eight bits of a colour are told as sixteen, the same twice, as xterm tells them.
 use Rattle.std.specs.Prelude.{ℕ, ◌+◌, ◌-◌, ◌/◌, ◌%◌, nat_lt, Bool, List, [], ◌∷◌, ◌++◌, decimal, if◌then◌else◌}
+use Rattle.anstyle_parse.specs.Stream.Groups.{groups_text}
+use Rattle.ansi_style.specs.declared.style.Style.{Style}
+use Rattle.ansi_style.specs.Codes.{codes_of}
 use Rattle.ansi_modes.specs.declared.colors.Rgb.{Rgb}
 use Rattle.ansi_answers.specs.declared.answer.ModeState.{ModeState}
 use Rattle.ansi_answers.specs.declared.answer.ModeState.TheVariants.{Unknown, Set, Reset, NeverSet}
 use Rattle.ansi_answers.specs.declared.answer.Paint.{Paint}
 use Rattle.ansi_answers.specs.declared.answer.Paint.TheVariants.{Foreground, Background, Cursor}
 use Rattle.ansi_answers.specs.declared.answer.Answer.{Answer}
-use Rattle.ansi_answers.specs.declared.answer.Answer.TheVariants.{AllIsWell, CursorPosition, ExtendedPosition, PrimaryAttributes, SecondaryAttributes, TertiaryAttributes, Version, Mode, PrivateMode, Margins, CursorShape, NoSetting, Size, KeyFlags, PaletteColor, PaintColor}
+use Rattle.ansi_answers.specs.declared.answer.Answer.TheVariants.{AllIsWell, CursorPosition, ExtendedPosition, PrimaryAttributes, SecondaryAttributes, TertiaryAttributes, Version, Mode, PrivateMode, Rendition, Margins, CursorShape, NoSetting, Size, KeyFlags, PaletteColor, PaintColor}
 
 -- so many bytes an answer has at most
 abbrev pub max_answer : ℕ
@@ -60,6 +63,13 @@ end_text bell = if bell then 0x07 ∷ [] else 0x1B ∷ 0x5C ∷ []
 abbrev pub colored_text : (before : List ℕ) (n : ℕ) → Rgb → (bell : Bool) → List ℕ
 colored_text before n color bell = before ++ (decimal n ++ ((0x3B ∷ []) ++ (color_text color ++ end_text bell)))
 
+-- the numbers that select a style, 0 first, and m
+abbrev pub selection_text : Style → List ℕ
+selection_text style = groups_text (codes_of style) ++ 0x6D ∷ []
+
+abbrev pub rendition_text : Style → List ℕ
+rendition_text style = (0x1B ∷ 0x50 ∷ 0x31 ∷ 0x24 ∷ 0x72 ∷ []) ++ (selection_text style ++ 0x1B ∷ 0x5C ∷ [])
+
 abbrev pub answer_text : Answer → List ℕ
 -- ESC [ 0 n
 answer_text AllIsWell = 0x1B ∷ 0x5B ∷ 0x30 ∷ 0x6E ∷ []
@@ -88,6 +98,7 @@ answer_text (Mode number state) = with_two (0x1B ∷ 0x5B ∷ []) number (state_
 answer_text (PrivateMode number state) =
     with_two (0x1B ∷ 0x5B ∷ 0x3F ∷ []) number (state_number state) (0x24 ∷ 0x79 ∷ [])
 -- ESC P 1 $ r, the setting, ESC \
+answer_text (Rendition style) = rendition_text style
 answer_text (Margins top bottom) =
     with_two (0x1B ∷ 0x50 ∷ 0x31 ∷ 0x24 ∷ 0x72 ∷ []) top bottom (0x72 ∷ 0x1B ∷ 0x5C ∷ [])
 answer_text (CursorShape number) =

@@ -1,9 +1,11 @@
 //! An answer, by its numbers, and its bytes.
 ghost use Rattle.std.specs.Prelude.{◌≡◌, ◌≤◌, ◌<◌, length};
 ghost use Rattle.anstyle_parse.specs.Io.Output.{Adds};
-ghost use Rattle.ansi_answers.specs.Text.{state_number, state_of, paint_number, with_one, with_two, hex_digit, channel_text, color_text, end_text, colored_text, answer_text, max_answer};
+ghost use Rattle.ansi_answers.specs.Text.{state_number, state_of, paint_number, with_one, with_two, hex_digit, channel_text, color_text, end_text, colored_text, rendition_text, answer_text, max_answer};
 
+use crate::rendition::put_selection;
 use ansi_modes::Rgb;
+use ansi_style::Style;
 use anstyle_parse::io::{Output, Sink};
 
 /// So many bytes an answer has at most.
@@ -65,6 +67,8 @@ pub enum Answer {
         number: u16,
         state: ModeState,
     },
+    /// DECRPSS of SGR: the style of what comes next.
+    Rendition(Style),
     /// DECRPSS of DECSTBM: the first and the last row of the margins.
     Margins {
         top: u16,
@@ -201,6 +205,15 @@ fn put_colored<W: Sink>(output: &mut Output<W>, before: &[u8], number: u16, colo
     output.put(end_text(bell));
 }
 
+/// Writes a style, as the setting that it is.
+fn put_rendition<W: Sink>(output: &mut Output<W>, style: Style)
+    ensures { Adds W.Sink (rendition_text style) output.old output.new }
+{
+    output.put(b"\x1BP1$r");
+    put_selection(output, style);
+    output.put(b"\x1B\\");
+}
+
 impl Answer {
     /// Writes its bytes.
     pub fn write<W: Sink>(self, output: &mut Output<W>)
@@ -222,6 +235,7 @@ impl Answer {
             Answer::PrivateMode { number, state } => {
                 put_two(output, b"\x1B[?", number, state.number(), b"$y");
             }
+            Answer::Rendition(style) => put_rendition(output, style),
             Answer::Margins { top, bottom } => {
                 put_two(output, b"\x1BP1$r", top, bottom, b"r\x1B\\");
             }

@@ -1,4 +1,6 @@
 //! What is read of a screen to answer.
+use ansi_style::Style;
+
 /// What is read of a screen. Rows and columns count from 1, as programs count them.
 #[derive(Debug, Clone, Copy, PartialEq, Eq)]
 pub struct Facts {
@@ -20,4 +22,6 @@ pub struct Facts {
     pub inserts: bool,
     /// Whether the cursor is shown (DECTCEM).
     pub is_visible: bool,
+    /// The style of what comes next.
+    pub style: Style,
 }

@@ -3,6 +3,10 @@ ghost use Rattle.std.specs.Prelude.{◌≡◌, ◌≤◌, length};
 ghost use Rattle.anstyle_parse.specs.Stream.Call.{Call};
 ghost use Rattle.anstyle_parse.specs.Stream.Calls.{AreCalls};
 ghost use Rattle.anstyle_parse.specs.Stream.Items.{EachIs};
+ghost use Rattle.ansi_style.specs.declared.style.Style.{Style as AStyle};
+ghost use Rattle.ansi_style.specs.Style.{HasBytes};
+ghost use Rattle.ansi_style.specs.Rendition.{selected};
+ghost use Rattle.ansi_style.specs.Codes.{codes_of};
 ghost use Rattle.ansi_answers.specs.Text.{answer_text};
 ghost use Rattle.ansi_answers.specs.Calls.{is_answer_byte, answer_calls, IsBounded};
 ghost use Rattle.ansi_answers.specs.Laws.{answer_to, HasSameNumbers};
@@ -12,6 +16,7 @@ use crate::color::Theme;
 use crate::facts::Facts;
 use crate::request::Request;
 use ansi_modes::Asked;
+use ansi_style::{Color, Style};
 
 /// An answer has ESC, BEL and printed ASCII alone, and at most so many bytes. Our own parser reads it as one control
 /// sequence, one device control string or one command, which has its numbers.
@@ -21,6 +26,35 @@ pub fn form(answer: Answer)
     ensures read { AreCalls (answer_text answer) (answer_calls answer) }
 {
     bounded(answer);
+}
+
+/// The numbers of a colour are bytes.
+fn bounded_color(color: Color)
+    ensures { HasBytes color }
+{
+    match color {
+        Color::Default => {}
+        Color::Named(_) => {}
+        Color::Bright(_) => {}
+        Color::Indexed(_) => {}
+        Color::Direct(_, _, _) => {}
+    }
+}
+
+/// Those of a style are.
+fn bounded_style(style: Style)
+    ensures foreground { HasBytes style.foreground }
+    ensures background { HasBytes style.background }
+{
+    bounded_color(style.foreground);
+    bounded_color(style.background);
+}
+
+/// A style that is told, and sent back as SGR, is selected, whatever was selected before.
+pub fn selects(style: Style)
+    ensures { (before : AStyle) → selected (codes_of style) before ≡ style }
+{
+    bounded_style(style);
 }
 
 /// The numbers of an answer are within the bounds of their types.
@@ -38,6 +72,7 @@ fn bounded(answer: Answer)
             number: _,
             state: _,
         } => {}
+        Answer::Rendition(style) => bounded_style(style),
         Answer::Margins { top: _, bottom: _ } => {}
         Answer::CursorShape(_) => {}
         Answer::Size {

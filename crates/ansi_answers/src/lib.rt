@@ -8,6 +8,7 @@ mod answer;
 mod color;
 mod facts;
 pub mod laws;
+mod rendition;
 mod request;
 mod sequence;
 mod waiting;

@@ -13,6 +13,8 @@ pub enum Request {
     Nothing,
     /// It asks, and no byte has come.
     Begun,
+    /// `m`: SGR.
+    Rendition,
     /// `r`: DECSTBM.
     Margins,
     /// A space.
@@ -65,6 +67,7 @@ impl Request {
     {
         match (self, byte) {
             (Request::Nothing, _) => Request::Nothing,
+            (Request::Begun, b'm') => Request::Rendition,
             (Request::Begun, b'r') => Request::Margins,
             (Request::Begun, b' ') => Request::Space,
             (Request::Space, b'q') => Request::Shape,
@@ -78,6 +81,7 @@ impl Request {
     {
         match self {
             Request::Nothing => None,
+            Request::Rendition => Some(Answer::Rendition(facts.style)),
             Request::Margins => Some(Answer::Margins {
                 top: facts.top,
                 bottom: facts.bottom,

@@ -1,4 +1,4 @@
-//! Rows that were worked by hand from the sources that the definitions name, or that xterm 379 answered.
+//! Rows that were worked by hand from the sources that the definitions name.
 mod commands;
 mod sequences;
 mod settings;
@@ -8,6 +8,7 @@ ghost use Rattle.std.specs.Prelude.{⊤};
 
 use ansi_answers::{Answer, Facts, Request, Theme, Waiting, answer_to_command, answer_to_sequence};
 use ansi_modes::Asked;
+use ansi_style::Style;
 use anstyle_parse::io::{Fault, FromWrite, Output};
 use anstyle_parse::{Params, Parser, Perform, Utf8Parser};
 use std::alloc::{AllocGlobal, Global};
@@ -32,6 +33,7 @@ fn facts() -> Facts {
         wraps: true,
         inserts: false,
         is_visible: true,
+        style: Style::default(),
     }
 }
 

@@ -29,8 +29,8 @@ fn assert_told(rt: &(impl Abort + AllocGlobal), rows: &[Row]) {
     }
 }
 
-// ctlseqs, "Operating System Commands", 4, 10 to 12; XParseColor(3). xterm 379 tells the eight bits twice, and ends as it
-// was asked.
+// ctlseqs, "Operating System Commands", 4, 10 to 12; XParseColor(3): of eight bits the sixteen
+// have the same two digits twice. An answer ends as the question did.
 #[test]
 fn colors(rt: HostRuntime) {
     let rows: [Row; 10] = [

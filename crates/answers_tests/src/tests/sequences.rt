@@ -4,7 +4,7 @@ use ansi_answers::Facts;
 use std::alloc::AllocGlobal;
 use std::process::Abort;
 
-// ECMA-48, 8.3.14, 8.3.35; the VT510 manual, DECXCPR. xterm 379 answered the first three, of 20 columns and 6 rows.
+// ECMA-48, 8.3.14, 8.3.35; the VT510 manual, DECXCPR; ctlseqs, "Functions using CSI".
 #[test]
 fn positions(rt: HostRuntime) {
     let rows: [Row; 8] = [
@@ -32,7 +32,7 @@ fn within_margins() -> Facts {
     }
 }
 
-// xterm 379, after ESC [ 2 ; 4 r ESC [ ? 6 h ESC [ 2 ; 20 H.
+// As after ESC [ 2 ; 4 r ESC [ ? 6 h ESC [ 2 ; 20 H: rows count from the margin.
 #[test]
 fn origin_mode(rt: HostRuntime) {
     let rows: [Row; 2] = [(b"\x1B[6n", b"\x1B[2;20R"), (b"\x1B[?6n", b"\x1B[?2;20;1R")];

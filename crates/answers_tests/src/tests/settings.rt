@@ -1,11 +1,11 @@
 //! Settings.
-use super::{Row, assert_rows, facts};
-use ansi_answers::Facts;
+use super::{Row, assert_rows, assert_same, facts};
+use ansi_answers::{Facts, MAX_ANSWER};
+use ansi_style::{Color, Hue, Style, Underline};
 use std::alloc::AllocGlobal;
 use std::process::Abort;
 
-// ctlseqs, "Device-Control functions", DECRQSS; the VT510 manual, DECRPSS. That one which is not known comes back empty:
-// xterm 379.
+// ctlseqs, "Device-Control functions", DECRQSS; the VT510 manual, DECRPSS. One that is not known comes back empty.
 #[test]
 fn settings(rt: HostRuntime) {
     let rows: [Row; 9] = [
@@ -34,4 +34,56 @@ fn margins(rt: HostRuntime) {
         ..facts()
     };
     assert_rows(&rt, facts, &rows);
+}
+
+/// A style of all kinds.
+fn styled() -> Style {
+    Style {
+        foreground: Color::Named(Hue::Red),
+        background: Color::Indexed(200),
+        underline: Underline::Single,
+        bold: true,
+        ..Style::default()
+    }
+}
+
+/// The longest.
+fn longest() -> Style {
+    Style {
+        foreground: Color::Direct(100, 200, 255),
+        background: Color::Direct(255, 128, 127),
+        underline: Underline::Curly,
+        bold: true,
+        dim: true,
+        italic: true,
+        blink: true,
+        reverse: true,
+        hidden: true,
+        struck_out: true,
+        overlined: true,
+    }
+}
+
+fn assert_style(rt: &(impl Abort + AllocGlobal), style: Style, wanted: &'static [u8]) {
+    let rows: [Row; 1] = [(b"\x1BP$qm\x1B\\", wanted)];
+    assert_rows(rt, Facts { style, ..facts() }, &rows);
+}
+
+// ctlseqs, DECRQSS: what selects the style, 0 first. Of the underline and of colours ansi_style's forms.
+#[test]
+fn styles(rt: HostRuntime) {
+    assert_style(&rt, Style::default(), b"\x1BP1$r0m\x1B\\");
+    assert_style(
+        &rt,
+        Style {
+            bold: true,
+            foreground: Color::Named(Hue::Red),
+            ..Style::default()
+        },
+        b"\x1BP1$r0;1;31m\x1B\\",
+    );
+    assert_style(&rt, styled(), b"\x1BP1$r0;1;4;31;48;5;200m\x1B\\");
+    let wanted = b"\x1BP1$r0;1;2;3;4:3;5;7;8;9;53;38;2;100;200;255;48;2;255;128;127m\x1B\\";
+    assert_same(&rt, &wanted.len(), &MAX_ANSWER);
+    assert_style(&rt, longest(), wanted);
 }

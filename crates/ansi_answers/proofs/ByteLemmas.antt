@@ -50,9 +50,15 @@ module _ (test : ℕ → Bool) (of_hex : (b : ℕ) → is_hex b ≡ true → tes
 
   pub color-each : (color : Rgb) → AreBytes color → EachIs test (color_text color)
   color-each color few =
-      EachIs-append test (0x72 ∷ 0x67 ∷ 0x62 ∷ 0x3A ∷ []) _ name
-      (EachIs-append test (channel_text color.red) _ (channel-each color.red few.0) (EachIs-append test (0x2F ∷ []) _ (slash, tt)
-      (EachIs-append test (channel_text color.green) _ (channel-each color.green few.1) (EachIs-append test (0x2F ∷ []) _ (slash, tt) (channel-each color.blue few.2)))))
+      let slash_is : EachIs test (0x2F ∷ []) = (slash, tt) in
+      let red = channel_text color.red in
+      let green = channel_text color.green in
+      let blue = channel_text color.blue in
+      EachIs-append test (0x72 ∷ 0x67 ∷ 0x62 ∷ 0x3A ∷ []) (red ++ ((0x2F ∷ []) ++ (green ++ ((0x2F ∷ []) ++ blue)))) name
+      (EachIs-append test red ((0x2F ∷ []) ++ (green ++ ((0x2F ∷ []) ++ blue))) (channel-each color.red few.0)
+      (EachIs-append test (0x2F ∷ []) (green ++ ((0x2F ∷ []) ++ blue)) slash_is
+      (EachIs-append test green ((0x2F ∷ []) ++ blue) (channel-each color.green few.1)
+      (EachIs-append test (0x2F ∷ []) blue slash_is (channel-each color.blue few.2)))))
 
 hex-below : (b : ℕ) → is_hex b ≡ true → b < 256
 unfolding is_hex is_within
@@ -94,8 +100,9 @@ end-bytes false = (refl, (refl, tt))
 colored-bytes : (before : List ℕ) (n : ℕ) (color : Rgb) (bell : Bool) → n ≤ max_field → AreBytes color → EachIs is_answer_byte before
     → EachIs is_answer_byte (colored_text before n color bell)
 colored-bytes before n color bell few small first =
-    join before _ first (join (decimal n) _ (decimal-bytes n few) (join (0x3B ∷ []) _ semicolon-byte
-    (join (color_text color) (end_text bell) (color-bytes color small) (end-bytes bell))))
+    let told = color_text color ++ end_text bell in
+    join before (decimal n ++ ((0x3B ∷ []) ++ told)) first (join (decimal n) ((0x3B ∷ []) ++ told) (decimal-bytes n few)
+    (join (0x3B ∷ []) told semicolon-byte (join (color_text color) (end_text bell) (color-bytes color small) (end-bytes bell))))
 
 pub state-few : (state : ModeState) → state_number state ≤ 4
 state-few Unknown = omega arith

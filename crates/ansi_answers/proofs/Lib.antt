@@ -1,0 +1,5 @@
+pub mod CallLemmas
+pub mod RenditionLemmas
+pub mod ByteLemmas
+pub mod ReadLemmas
+pub mod BlindLemmas

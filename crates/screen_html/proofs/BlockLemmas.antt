@@ -1,6 +1,6 @@
 -- HTML in blocks is that of the rows, in parts; in each part of the HTML of a stream stands a fragment.
 use Rattle.std.proofs.Common.{◌≡◌, ℕ, Bool, true, false, List, [], ◌∷◌, ◌++◌, map, refl, sym, ap, ap₂, ◌∙◌, subst, append_assoc, append-nil}
-use Rattle.std.specs.Prelude.{◌==◌, ◌-◌, take, if◌then◌else◌}
+use Rattle.std.specs.Prelude.{◌==◌, ◌-◌, if◌then◌else◌}
 use Rattle.anstyle_parse.specs.Stream.Call.{Call}
 use Rattle.ansi_html.specs.declared.scheme.Styling.{Styling}
 use Rattle.ansi_html.specs.Blocks.{block_begin, block_end, lines_a_block, AreBlocksOf}
@@ -11,13 +11,14 @@ use Rattle.ansi_html.proofs.PartLemmas.{Rest, Rest-text, Rest-last}
 use Rattle.ansi_html.proofs.StyledLemmas.{shown_after-append}
 use Rattle.ansi_screen.specs.declared.cell.Cell.{Cell}
 use Rattle.ansi_screen.specs.After.{State, after_all}
-use Rattle.ansi_screen.specs.Text.{used, is_unprinted, goes_on}
+use Rattle.ansi_screen.specs.Text.{goes_on}
 use Rattle.screen_text.specs.declared.performer.ShownWriter.{ShownWriter}
 use Rattle.screen_text.specs.Lines.{showing}
 use Rattle.screen_text.specs.Rows.{Handed, leaving, command, all_handed, rows_from, after_rows, last_rows_from}
 use Rattle.screen_text.specs.Shown.{given_all}
 use Rattle.screen_text.specs.Writer.{rows_of, screen_of, text_from, ending_from}
-use Rattle.screen_html.specs.Shown.{cell_styled, line_feed, closing_styled, shown_html}
+use Rattle.screen_html.specs.Paid.{purse, paid}
+use Rattle.screen_html.specs.Shown.{line_feed, Linking, cells_styled, row_linking, closing_styled, shown_html}
 use Rattle.screen_html.specs.Writer.{Between, row_html, after_row, after_command, closing_html}
 use Rattle.screen_html.specs.Blocks.{Blocked, blocked, at_start, blocked_at_start, left_with_row, row_blocked, after_row_blocked, after_command_blocked, closing_blocked, left_blocked, ending_blocked, shown_blocked}
 use Rattle.screen_html.proofs.ShownLemmas.{left-rows, ending-rows}
@@ -62,15 +63,18 @@ left-some it = by_case (it.left == 0) refl
 pub outside-row : (it : Blocked) (row : List Cell) → IsOutside (after_row_blocked it row)
 outside-row it row = by_case (goes_on row)
   where
+    at : Linking
+    at = it.inside.linking
+
     cells : List Styled
-    cells = map (cell_styled it.inside.links) (take (used is_unprinted row) row)
+    cells = paid (purse at.last at.spare) (cells_styled at.places row)
 
     after_by : Bool → Blocked
     after_by on =
         blocked (record {
           styling = it.inside.styling;
           shown = shown_after it.inside.shown (cells ++ (if on then [] else line_feed ∷ []));
-          links = it.inside.links;
+          linking = row_linking at row;
           is_open = on;
         })
         (if on then left_with_row it else left_with_row it - 1)

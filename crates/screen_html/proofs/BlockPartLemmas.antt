@@ -19,15 +19,14 @@ use Rattle.ansi_screen.specs.Text.{goes_on}
 use Rattle.screen_text.specs.Lines.{open_after, showing}
 use Rattle.screen_text.specs.Rows.{Handed, leaving, command, all_handed, rows_from, after_rows}
 use Rattle.screen_text.specs.Shown.{given_all}
-use Rattle.screen_html.specs.Links.{Kept, no_links, links_after}
-use Rattle.screen_html.specs.Shown.{row_styled, rows_styled, handed_styled, links_behind, closing_styled, shown_styled}
+use Rattle.screen_html.specs.Shown.{Linking, no_linking, row_styled, row_linking, command_linking, rows_styled, handed_styled, linking_behind, closing_styled, shown_styled}
 use Rattle.screen_html.specs.Writer.{row_html, closing_html}
 use Rattle.screen_html.specs.Blocks.{Blocked, blocked, left_after_row, row_blocked, after_row_blocked, after_command_blocked, closing_blocked, shown_blocked}
 use Rattle.screen_html.proofs.BlockLemmas.{IsOutside, outside-start, outside-row, regroup, closing-none, all_blocked, all_given, blocked-all}
 use Rattle.screen_html.proofs.CellLemmas.{of-shown}
 use Rattle.screen_html.proofs.FragmentLemmas.{Others, Others-text, Others-last}
-use Rattle.screen_html.proofs.HandedLemmas.{AreKept, kept-none, kept-after, links-row, links-closing}
-use Rattle.screen_html.proofs.ShownLemmas.{between, handed-rows}
+use Rattle.screen_html.proofs.HandedLemmas.{AreKept, kept-none, kept-after, handed-append, links-row, links-closing}
+use Rattle.screen_html.proofs.ShownLemmas.{between}
 use Rattle.screen_html.proofs.WholeLemmas.{AreTextual-append, textual_feed}
 
 -- what holds of all texts holds of the first ones and of the others
@@ -41,26 +40,18 @@ module _ (Holds : Styled → Type 0) where
   all-others (it ∷ texts) more are = all-others texts more are.1
 
 -- The texts of all that is handed on are those that are shown, but for the line feed at the end.
-handed-append : (links : List Kept) (all more : List Handed)
-    → handed_styled links (all ++ more) ≡ handed_styled links all ++ handed_styled (links_behind links all) more
-handed-append links [] more = refl
-handed-append links (leaving row ∷ others) more =
-    ap (λ l. row_styled links row ++ l) (handed-append links others more)
-    ∙ sym (append_assoc (row_styled links row) (handed_styled links others) (handed_styled (links_behind links others) more))
-handed-append links (command number parts ∷ others) more = handed-append (links_after number parts links) others more
-
 pub all-given : (Holds : Styled → Type 0) (styling : Styling) (s : State) (calls : List Call) → AllByRecursion Holds (shown_styled s calls)
-    → AllByRecursion Holds (handed_styled no_links (all_given styling s calls))
+    → AllByRecursion Holds (handed_styled no_linking (all_given styling s calls))
 all-given Holds styling s calls are =
     let all = all_handed (given_all calls) s in
-    let links = links_behind no_links all in
+    let at = linking_behind no_linking all in
     let rows = showing (after_all (given_all calls) s).display in
     let closing = closing_styled (open_after (open_after false (all_left (given_all calls) s)) rows) in
-    let last = rows_styled links rows in
+    let last = rows_styled at rows in
     subst (AllByRecursion Holds)
-    (sym (handed-append no_links all (map leaving rows) ∙ ap (λ l. handed_styled no_links all ++ l) (handed-rows links rows)))
-    (all-first Holds (handed_styled no_links all ++ last) closing
-    (subst (AllByRecursion Holds) (sym (append_assoc (handed_styled no_links all) last closing)) are))
+    (sym (handed-append no_linking all (map leaving rows)))
+    (all-first Holds (handed_styled no_linking all ++ last) closing
+    (subst (AllByRecursion Holds) (sym (append_assoc (handed_styled no_linking all) last closing)) are))
 
 textual-closing : (on : Bool) → AllByRecursion (λ it. AreTextual (bytes_of it)) (closing_styled on)
 textual-closing true = ((textual_feed, tt), tt)
@@ -78,22 +69,22 @@ module _ (styling : Styling) where
       Others-last styling none shown next text html closed (subst (IsInElement styling shown) (append-nil text) (follows [] (in_none next (closes refl)))) more
   Others-row none false shown next text html closed closes follows more = Others-text styling none shown next text html closed follows more
 
-  abbrev standing : Element → List Kept → Bool → ℕ → Blocked
-  standing shown links on left = blocked (between styling shown links on) left
+  abbrev standing : Element → Linking → Bool → ℕ → Blocked
+  standing shown at on left = blocked (between styling shown at on) left
 
-  Others-end : (shown : Element) (links : List Kept) (on : Bool) (left : ℕ) → IsOutside (standing shown links on left) → IsSound shown.link
-      → Others styling (left == 0) shown (closing_blocked (standing shown links on left))
-  Others-end shown links on left outside sound = by_case (left == 0) outside.shown outside.closed
+  Others-end : (shown : Element) (at : Linking) (on : Bool) (left : ℕ) → IsOutside (standing shown at on left) → IsSound shown.link
+      → Others styling (left == 0) shown (closing_blocked (standing shown at on left))
+  Others-end shown at on left outside sound = by_case (left == 0) outside.shown outside.closed
     where
       close : List ℕ
-      close = closing_html (between styling shown links on)
+      close = closing_html (between styling shown at on)
 
       by_case : (none : Bool) → (none ≡ true → shown ≡ no_element) → (none ≡ true → on ≡ false)
           → Others styling none shown (close ++ (if none then [] else block_end))
       by_case true shown_is closed = record {
         first = [];
         parts = [];
-        whole = append-nil close ∙ closing-none (between styling shown links on) (shown_is refl) (closed refl);
+        whole = append-nil close ∙ closing-none (between styling shown at on) (shown_is refl) (closed refl);
         stands = λ is. absurd (cc is);
         fragments = tt;
       }
@@ -106,13 +97,13 @@ module _ (styling : Styling) where
         fragments = tt;
       }
 
-  Others-all : (shown : Element) (links : List Kept) (on : Bool) (left : ℕ) (all : List Handed) → IsOutside (standing shown links on left)
-      → IsSound shown.link → AreKept links → AllByRecursion (λ it. AreTextual (bytes_of it)) (handed_styled links all)
-      → Others styling (left == 0) shown (all_blocked (standing shown links on left) all)
-  Others-all shown links on left [] outside sound kept are = Others-end shown links on left outside sound
-  Others-all shown links on left (leaving row ∷ others) outside sound kept are =
-      let it = standing shown links on left in
-      let texts = row_styled links row in
+  Others-all : (shown : Element) (at : Linking) (on : Bool) (left : ℕ) (all : List Handed) → IsOutside (standing shown at on left)
+      → IsSound shown.link → AreKept at.places → AllByRecursion (λ it. AreTextual (bytes_of it)) (handed_styled at all)
+      → Others styling (left == 0) shown (all_blocked (standing shown at on left) all)
+  Others-all shown at on left [] outside sound kept are = Others-end shown at on left outside sound
+  Others-all shown at on left (leaving row ∷ others) outside sound kept are =
+      let it = standing shown at on left in
+      let texts = row_styled at row in
       let after = after_row_blocked it row in
       let next = shown_after shown texts in
       let text = row_html it.inside row in
@@ -120,23 +111,23 @@ module _ (styling : Styling) where
       let closing = if after.left == 0 then block_end else [] in
       let blocks = rows_from row_blocked after_row_blocked after_command_blocked after others in
       let close = closing_blocked (after_rows after_row_blocked after_command_blocked after others) in
-      let haves = links-row links row kept in
-      let firsts = all-first (λ it. AreTextual (bytes_of it)) texts (handed_styled links others) are in
+      let haves = links-row at row kept in
+      let firsts = all-first (λ it. AreTextual (bytes_of it)) texts (handed_styled (row_linking at row) others) are in
       let outside_after = outside-row it row in
       subst (Others styling (left == 0) shown) (sym (regroup opening text closing blocks close))
       (Others-row (left == 0) (after.left == 0) shown next text (blocks ++ close) outside.shown outside_after.shown
       (λ first is. IsInside-styled styling shown texts first sound haves firsts is)
-      (Others-all next links (goes_on row) (left_after_row it row) others outside_after (IsSound-shown_after styling shown texts sound haves) kept
-      (all-others (λ it. AreTextual (bytes_of it)) texts (handed_styled links others) are)))
-  Others-all shown links on left (command number parts ∷ others) outside sound kept are =
-      Others-all shown (links_after number parts links) on left others (record { shown = outside.shown; closed = outside.closed }) sound
-      (kept-after number parts links kept) are
+      (Others-all next (row_linking at row) (goes_on row) (left_after_row it row) others outside_after (IsSound-shown_after styling shown texts sound haves) kept
+      (all-others (λ it. AreTextual (bytes_of it)) texts (handed_styled (row_linking at row) others) are)))
+  Others-all shown at on left (command number parts ∷ others) outside sound kept are =
+      Others-all shown (command_linking at number parts) on left others (record { shown = outside.shown; closed = outside.closed }) sound
+      (kept-after number parts at.places kept) are
 
   pub AreBlocksOfFragments-shown : (columns rows : ℕ) (bytes : List ℕ) (calls : List Call) → AreCalls bytes calls
       → AreBlocksOfFragments styling (shown_blocked styling (new_state columns rows) calls)
   AreBlocksOfFragments-shown columns rows bytes calls are =
       let s = new_state columns rows in
       let textual = of-shown AreTextual tt AreTextual-append (λ c good. AreTextual-printed (encode_utf8 c) (ArePrinted-encode c good.0)) (textual_feed, tt) columns rows bytes calls are in
-      let all = Others-all no_element no_links false 0 (all_given styling s calls) (outside-start styling) IsSound-none kept-none
+      let all = Others-all no_element no_linking false 0 (all_given styling s calls) (outside-start styling) IsSound-none kept-none
       (all-given (λ it. AreTextual (bytes_of it)) styling s calls textual) in
       record { parts = all.parts; blocks = sym (blocked-all styling s calls) ∙ all.whole; fragments = all.fragments }

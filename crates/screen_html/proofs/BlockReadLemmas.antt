@@ -22,8 +22,7 @@ use Rattle.ansi_screen.specs.After.{State, new_state}
 use Rattle.ansi_screen.specs.Text.{goes_on}
 use Rattle.screen_text.specs.Rows.{Handed, leaving, command, rows_from, after_rows}
 use Rattle.screen_text.specs.Shown.{shown_text}
-use Rattle.screen_html.specs.Links.{Kept, no_links, links_after}
-use Rattle.screen_html.specs.Shown.{row_styled, handed_styled, closing_styled, shown_styled, shown_html}
+use Rattle.screen_html.specs.Shown.{Linking, no_linking, row_styled, row_linking, command_linking, handed_styled, closing_styled, shown_styled, shown_html}
 use Rattle.screen_html.specs.Writer.{row_html, after_row, after_command, closing_html}
 use Rattle.screen_html.specs.Blocks.{Blocked, blocked, at_start, blocked_at_start, left_after_row, row_blocked, after_row_blocked, after_command_blocked, closing_blocked, shown_blocked}
 use Rattle.screen_html.proofs.BlockLemmas.{IsOutside, outside-start, outside-row, regroup, all_blocked, all_html, all_given, blocked-all, html-all}
@@ -38,8 +37,8 @@ abbrev around : (none : Bool) → List Attributes
 around none = if none then [] else in_block
 
 module _ (styling : Styling) where
-  abbrev standing : Element → List Kept → Bool → ℕ → Blocked
-  standing shown links on left = blocked (between styling shown links on) left
+  abbrev standing : Element → Linking → Bool → ℕ → Blocked
+  standing shown at on left = blocked (between styling shown at on) left
 
   -- what is seen behind text of an element, in these others
   abbrev seen_in : List Attributes → Element → List ℕ → List Seen
@@ -75,11 +74,11 @@ module _ (styling : Styling) where
   seen-last : (outer : List Attributes) (shown : Element) (rest : List ℕ) → seen_in outer shown (element_end shown ++ rest) ≡ seen_from (in_text outer) rest
   seen-last outer shown rest = seen-element_end outer rest styling shown
 
-  seen-end : (none : Bool) (shown : Element) (links : List Kept) (on : Bool)
-      → seen_in (around none) shown (closing_html (between styling shown links on) ++ (if none then [] else block_end))
-      ≡ seen_in [] shown (closing_html (between styling shown links on))
-  seen-end true shown links on = ap (seen_in [] shown) (append-nil (closing_html (between styling shown links on)))
-  seen-end false shown links on =
+  seen-end : (none : Bool) (shown : Element) (at : Linking) (on : Bool)
+      → seen_in (around none) shown (closing_html (between styling shown at on) ++ (if none then [] else block_end))
+      ≡ seen_in [] shown (closing_html (between styling shown at on))
+  seen-end true shown at on = ap (seen_in [] shown) (append-nil (closing_html (between styling shown at on)))
+  seen-end false shown at on =
       let texts = closing_styled on in
       let html = styled_html styling shown texts in
       let last = shown_after shown texts in
@@ -89,12 +88,12 @@ module _ (styling : Styling) where
       (seen-last in_block last block_end ∙ sym (ap (seen_in [] last) (sym (append-nil (element_end last))) ∙ seen-last [] last []))
       ∙ sym (seen-styled_html styling [] refl shown texts (element_end last))
 
-  seen-rows : (shown : Element) (links : List Kept) (on : Bool) (left : ℕ) (all : List Handed) → IsOutside (standing shown links on left)
-      → seen_in (around (left == 0)) shown (all_blocked (standing shown links on left) all) ≡ seen_in [] shown (all_html (between styling shown links on) all)
-  seen-rows shown links on left [] outside = seen-end (left == 0) shown links on
-  seen-rows shown links on left (leaving row ∷ others) outside =
-      let it = standing shown links on left in
-      let texts = row_styled links row in
+  seen-rows : (shown : Element) (at : Linking) (on : Bool) (left : ℕ) (all : List Handed) → IsOutside (standing shown at on left)
+      → seen_in (around (left == 0)) shown (all_blocked (standing shown at on left) all) ≡ seen_in [] shown (all_html (between styling shown at on) all)
+  seen-rows shown at on left [] outside = seen-end (left == 0) shown at on
+  seen-rows shown at on left (leaving row ∷ others) outside =
+      let it = standing shown at on left in
+      let texts = row_styled at row in
       let after = after_row_blocked it row in
       let text = row_html it.inside row in
       let opening = if left == 0 then block_begin else [] in
@@ -106,49 +105,49 @@ module _ (styling : Styling) where
       let outside_after = outside-row it row in
       ap (seen_in (around (left == 0)) shown) (regroup opening text closing blocks close)
       ∙ seen-row (left == 0) (after.left == 0) shown texts (blocks ++ close) (lines ++ last) outside.shown outside_after.shown
-      (seen-rows (shown_after shown texts) links (goes_on row) (left_after_row it row) others outside_after)
+      (seen-rows (shown_after shown texts) (row_linking at row) (goes_on row) (left_after_row it row) others outside_after)
       ∙ ap (seen_in [] shown) (sym (append_assoc text lines last))
-  seen-rows shown links on left (command number parts ∷ others) outside =
-      seen-rows shown (links_after number parts links) on left others (record { shown = outside.shown; closed = outside.closed })
+  seen-rows shown at on left (command number parts ∷ others) outside =
+      seen-rows shown (command_linking at number parts) on left others (record { shown = outside.shown; closed = outside.closed })
 
 -- What holds of the HTML of texts, of what ends an element and of the tags of blocks holds of all.
 module _ (styling : Styling) (Holds : List ℕ → Type 0) (Fits : Styled → Type 0) (nothing : Holds [])
     (append : (first second : List ℕ) → Holds first → Holds second → Holds (first ++ second)) (begin : Holds block_begin) (end : Holds block_end)
     (last : (shown : Element) → Holds (element_end shown)) (closes : (on : Bool) → AllByRecursion Fits (closing_styled on))
     (texts_hold : (shown : Element) (texts : List Styled) → IsSound shown.link → HaveLinks texts → AllByRecursion Fits texts → Holds (styled_html styling shown texts)) where
-  holds-closing : (shown : Element) (links : List Kept) (on : Bool) → IsSound shown.link → Holds (closing_html (between styling shown links on))
-  holds-closing shown links on sound =
+  holds-closing : (shown : Element) (at : Linking) (on : Bool) → IsSound shown.link → Holds (closing_html (between styling shown at on))
+  holds-closing shown at on sound =
       append (styled_html styling shown (closing_styled on)) (element_end (shown_after shown (closing_styled on)))
       (texts_hold shown (closing_styled on) sound (links-closing on) (closes on)) (last (shown_after shown (closing_styled on)))
 
-  holds-blocks : (shown : Element) (links : List Kept) (on : Bool) (left : ℕ) (all : List Handed) → IsSound shown.link → AreKept links
-      → AllByRecursion Fits (handed_styled links all) → Holds (all_blocked (blocked (between styling shown links on) left) all)
-  holds-blocks shown links on left [] sound kept are =
-      append (closing_html (between styling shown links on)) (if left == 0 then [] else block_end) (holds-closing shown links on sound)
+  holds-blocks : (shown : Element) (at : Linking) (on : Bool) (left : ℕ) (all : List Handed) → IsSound shown.link → AreKept at.places
+      → AllByRecursion Fits (handed_styled at all) → Holds (all_blocked (blocked (between styling shown at on) left) all)
+  holds-blocks shown at on left [] sound kept are =
+      append (closing_html (between styling shown at on)) (if left == 0 then [] else block_end) (holds-closing shown at on sound)
       (choose Holds (left == 0) [] block_end nothing end)
-  holds-blocks shown links on left (leaving row ∷ others) sound kept are =
-      let it = blocked (between styling shown links on) left in
-      let texts = row_styled links row in
+  holds-blocks shown at on left (leaving row ∷ others) sound kept are =
+      let it = blocked (between styling shown at on) left in
+      let texts = row_styled at row in
       let after = after_row_blocked it row in
       let text = row_html it.inside row in
       let opening = if left == 0 then block_begin else [] in
       let closing = if after.left == 0 then block_end else [] in
       let blocks = rows_from row_blocked after_row_blocked after_command_blocked after others in
       let close = closing_blocked (after_rows after_row_blocked after_command_blocked after others) in
-      let haves = links-row links row kept in
+      let haves = links-row at row kept in
       subst Holds (sym (regroup opening text closing blocks close))
       (append opening (text ++ (closing ++ (blocks ++ close))) (choose Holds (left == 0) block_begin [] begin nothing)
-      (append text (closing ++ (blocks ++ close)) (texts_hold shown texts sound haves (all-first Fits texts (handed_styled links others) are))
+      (append text (closing ++ (blocks ++ close)) (texts_hold shown texts sound haves (all-first Fits texts (handed_styled (row_linking at row) others) are))
       (append closing (blocks ++ close) (choose Holds (after.left == 0) block_end [] end nothing)
-      (holds-blocks (shown_after shown texts) links (goes_on row) (left_after_row it row) others (IsSound-shown_after styling shown texts sound haves) kept
-      (all-others Fits texts (handed_styled links others) are)))))
-  holds-blocks shown links on left (command number parts ∷ others) sound kept are =
-      holds-blocks shown (links_after number parts links) on left others sound (kept-after number parts links kept) are
+      (holds-blocks (shown_after shown texts) (row_linking at row) (goes_on row) (left_after_row it row) others (IsSound-shown_after styling shown texts sound haves) kept
+      (all-others Fits texts (handed_styled (row_linking at row) others) are)))))
+  holds-blocks shown at on left (command number parts ∷ others) sound kept are =
+      holds-blocks shown (command_linking at number parts) on left others sound (kept-after number parts at.places kept) are
 
   pub holds-shown : (s : State) (calls : List Call) → AllByRecursion Fits (shown_styled s calls) → Holds (shown_blocked styling s calls)
   holds-shown s calls are =
       subst Holds (blocked-all styling s calls)
-      (holds-blocks no_element no_links false 0 (all_given styling s calls) IsSound-none kept-none (all-given Fits styling s calls are))
+      (holds-blocks no_element no_linking false 0 (all_given styling s calls) IsSound-none kept-none (all-given Fits styling s calls are))
 
 -- None of it is 0D,
 abbrev fits_any : Styled → Type 0
@@ -183,7 +182,7 @@ module _ (styling : Styling) (s : State) (calls : List Call) where
   seen-blocks =
       ap (seen_from (in_text [])) (normalized-same (shown_blocked styling s calls) (HasNoReturn-blocked styling s calls) ∙ sym (blocked-all styling s calls))
       ∙ sym (seen-outside styling [] no_element (all_blocked (blocked_at_start styling) (all_given styling s calls)) refl)
-      ∙ seen-rows styling no_element no_links false 0 (all_given styling s calls) (outside-start styling)
+      ∙ seen-rows styling no_element no_linking false 0 (all_given styling s calls) (outside-start styling)
       ∙ seen-outside styling [] no_element (all_html (at_start styling) (all_given styling s calls)) refl
       ∙ ap (seen_from (in_text [])) (html-all styling s calls ∙ sym (normalized-same (shown_html styling s calls) no_return-html))
 

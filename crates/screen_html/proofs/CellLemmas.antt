@@ -20,9 +20,11 @@ use Rattle.screen_text.specs.Lines.{open_after, showing}
 use Rattle.screen_text.specs.Shown.{given_all}
 use Rattle.screen_text.proofs.CleanLemmas.{all-print, good-showing}
 use Rattle.screen_text.specs.Rows.{Handed, leaving, command, all_handed}
-use Rattle.screen_html.specs.Links.{Kept, no_links, links_after}
+use Rattle.screen_html.specs.Links.{Kept, Table}
+use Rattle.screen_html.specs.Paid.{purse, paid}
 use Rattle.screen_html.proofs.HandedLemmas.{rows_in, rows_in-handed}
-use Rattle.screen_html.specs.Shown.{cell_styled, line_feed, row_styled, rows_styled, handed_styled, links_behind, closing_styled, shown_styled}
+use Rattle.screen_html.proofs.PaidLemmas.{all-paid}
+use Rattle.screen_html.specs.Shown.{cell_styled, line_feed, Linking, linked, no_linking, row_styled, row_linking, command_linking, rows_styled, handed_styled, linking_behind, closing_styled, shown_styled}
 use Rattle.screen_html.specs.Page.{page_styled}
 
 -- calls that may be shown print characters
@@ -76,20 +78,22 @@ module _ (Holds : List ℕ → Type 0) (none : Holds []) (both : (first second :
   of-closing true = (feed, tt)
   of-closing false = tt
 
-  of-row : (links : List Kept) (row : List Cell) → AreGood row → HoldsOfAll (row_styled links row)
-  of-row links row are =
+  of-row : (at : Linking) (row : List Cell) → AreGood row → HoldsOfAll (row_styled at row)
+  of-row at row are =
       let cells : List Cell = take (used is_unprinted row) row in
-      all-append (map (cell_styled links) cells) (if goes_on row then [] else line_feed ∷ [])
-      (of-cells links cells (AllByRecursion-take IsGoodCell (used is_unprinted row) row are)) (of-line_end (goes_on row))
+      all-append (paid (purse at.last at.spare) (map (cell_styled at.places) cells)) (if goes_on row then [] else line_feed ∷ [])
+      (all-paid Holds (purse at.last at.spare) (map (cell_styled at.places) cells)
+      (of-cells at.places cells (AllByRecursion-take IsGoodCell (used is_unprinted row) row are))) (of-line_end (goes_on row))
 
-  of-rows : (links : List Kept) (rows : List (List Cell)) → AllByRecursion AreGood rows → HoldsOfAll (rows_styled links rows)
-  of-rows links [] are = tt
-  of-rows links (row ∷ rows) are = all-append (row_styled links row) (rows_styled links rows) (of-row links row are.0) (of-rows links rows are.1)
+  of-rows : (at : Linking) (rows : List (List Cell)) → AllByRecursion AreGood rows → HoldsOfAll (rows_styled at rows)
+  of-rows at [] are = tt
+  of-rows at (row ∷ rows) are = all-append (row_styled at row) (rows_styled (row_linking at row) rows) (of-row at row are.0) (of-rows (row_linking at row) rows are.1)
 
-  of-handed : (links : List Kept) (all : List Handed) → AllByRecursion AreGood (rows_in all) → HoldsOfAll (handed_styled links all)
-  of-handed links [] are = tt
-  of-handed links (leaving row ∷ others) are = all-append (row_styled links row) (handed_styled links others) (of-row links row are.0) (of-handed links others are.1)
-  of-handed links (command number parts ∷ others) are = of-handed (links_after number parts links) others are
+  of-handed : (at : Linking) (all : List Handed) → AllByRecursion AreGood (rows_in all) → HoldsOfAll (handed_styled at all)
+  of-handed at [] are = tt
+  of-handed at (leaving row ∷ others) are =
+      all-append (row_styled at row) (handed_styled (row_linking at row) others) (of-row at row are.0) (of-handed (row_linking at row) others are.1)
+  of-handed at (command number parts ∷ others) are = of-handed (command_linking at number parts) others are
 
   pub of-shown : (columns rows : ℕ) (bytes : List ℕ) (calls : List Call) → AreCalls bytes calls
       → AllByRecursion (λ it. Holds (bytes_of it)) (shown_styled (new_state columns rows) calls)
@@ -102,15 +106,15 @@ module _ (Holds : List ℕ → Type 0) (none : Holds []) (both : (first second :
       let last : List (List Cell) = showing behind.display in
       let good : IsGoodState behind = good-after_all (given_all calls) s prints new in
       let all : List Handed = all_handed (given_all calls) s in
-      let links : List Kept = links_behind no_links all in
-      all-append (handed_styled no_links all) (rows_styled links last ++ closing_styled (open_after (open_after false left) last))
-      (of-handed no_links all (subst (AllByRecursion AreGood) (sym (rows_in-handed (given_all calls) s)) (good-left (given_all calls) s prints new)))
-      (all-append (rows_styled links last) (closing_styled (open_after (open_after false left) last))
-      (of-rows links last (good-showing behind.display good.display))
+      let at : Linking = linking_behind no_linking all in
+      all-append (handed_styled no_linking all) (rows_styled at last ++ closing_styled (open_after (open_after false left) last))
+      (of-handed no_linking all (subst (AllByRecursion AreGood) (sym (rows_in-handed (given_all calls) s)) (good-left (given_all calls) s prints new)))
+      (all-append (rows_styled at last) (closing_styled (open_after (open_after false left) last))
+      (of-rows at last (good-showing behind.display good.display))
       (of-closing (open_after (open_after false left) last)))
 
   -- of a page, after the calls of a stream
-  pub of-page : (links : List Kept) (columns rows : ℕ) (bytes : List ℕ) (calls : List Call) → AreCalls bytes calls
+  pub of-page : (links : Table) (columns rows : ℕ) (bytes : List ℕ) (calls : List Call) → AreCalls bytes calls
       → AllByRecursion (λ it. Holds (bytes_of it)) (page_styled links (after_all calls (new_state columns rows)).display)
   of-page links columns rows bytes calls are =
       let s : State = new_state columns rows in
@@ -119,6 +123,6 @@ module _ (Holds : List ℕ → Type 0) (none : Holds []) (both : (first second :
       let behind : State = after_all calls s in
       let good : IsGoodState behind = good-after_all calls s prints new in
       let last : List (List Cell) = printed_rows behind.display in
-      all-append (rows_styled links last) (closing_styled (open_after false last))
-      (of-rows links last (good-first_rows (printed_count behind.display) behind.display good.display))
+      all-append (rows_styled (linked [] links) last) (closing_styled (open_after false last))
+      (of-rows (linked [] links) last (good-first_rows (printed_count behind.display) behind.display good.display))
       (of-closing (open_after false last))

@@ -1,5 +1,5 @@
 -- The rows among what a screen hands on; and the links that are kept, which may stand in the HTML.
-use Rattle.std.proofs.Common.{◌≡◌, ℕ, zero, suc, Bool, true, false, List, [], ◌∷◌, ◌++◌, map, take, set, append_assoc, refl, ap, ◌∙◌}
+use Rattle.std.proofs.Common.{◌≡◌, ℕ, zero, suc, Bool, true, false, List, [], ◌∷◌, ◌++◌, map, take, set, append_assoc, refl, sym, ap, ◌∙◌}
 use Rattle.std.specs.Prelude.{◌%◌, ◌==◌, ◌&&◌, not, slice_index_or, if◌then◌else◌, replicate}
 use Rattle.std.specs.List.{AllByRecursion}
 use Rattle.anstyle_parse.specs.Stream.Call.{Call, print, execute, hook, put, unhook, osc_dispatch, csi_dispatch, esc_dispatch}
@@ -15,9 +15,11 @@ use Rattle.ansi_screen.specs.Text.{used, is_unprinted, goes_on, printed_rows}
 use Rattle.screen_text.specs.Lines.{open_after, showing}
 use Rattle.screen_text.specs.Rows.{Handed, leaving, command, commands, all_handed}
 use Rattle.screen_text.specs.Shown.{given_all}
-use Rattle.screen_html.specs.Links.{Kept, kept, no_links, most_kept, place_of, link_at, links_after}
-use Rattle.screen_html.specs.Shown.{cell_styled, line_feed, row_styled, rows_styled, handed_styled, links_behind, closing_styled, shown_styled}
+use Rattle.screen_html.specs.Links.{Kept, kept, Table, no_places, most_kept, place_of, link_at, links_after}
+use Rattle.screen_html.specs.Paid.{purse, paid}
+use Rattle.screen_html.specs.Shown.{cell_styled, line_feed, Linking, linked, no_linking, row_styled, row_linking, command_linking, rows_styled, handed_styled, linking_behind, closing_styled, shown_styled}
 use Rattle.screen_html.specs.Page.{page_styled, links_by, all_links}
+use Rattle.screen_html.proofs.PaidLemmas.{links-paid}
 
 -- the rows alone
 abbrev pub rows_in : List Handed → List (List Cell)
@@ -49,36 +51,56 @@ rows_in-handed (call ∷ calls) s =
     ∙ ap (λ l. rows ++ l) (rows_in-commands call s later ∙ rows_in-handed calls (after call s))
 
 -- nothing is written where no row is handed on
-pub handed-none : (links : List Kept) (all : List Handed) → rows_in all ≡ [] → handed_styled links all ≡ []
-handed-none links [] none = refl
-handed-none links (leaving row ∷ others) none = cc
-handed-none links (command number parts ∷ others) none = handed-none (links_after number parts links) others none
+pub handed-none : (at : Linking) (all : List Handed) → rows_in all ≡ [] → handed_styled at all ≡ []
+handed-none at [] none = refl
+handed-none at (leaving row ∷ others) none = cc
+handed-none at (command number parts ∷ others) none = handed-none (command_linking at number parts) others none
 
--- The links behind what is handed on are those after the calls.
-behind-rows : (rows : List (List Cell)) (others : List Handed) (links : List Kept) → links_behind links (map leaving rows ++ others) ≡ links_behind links others
-behind-rows [] others links = refl
-behind-rows (row ∷ rows) others links = behind-rows rows others links
+-- where that leads, one after another
+pub behind-append : (at : Linking) (all more : List Handed) → linking_behind at (all ++ more) ≡ linking_behind (linking_behind at all) more
+behind-append at [] more = refl
+behind-append at (leaving row ∷ others) more = behind-append (row_linking at row) others more
+behind-append at (command number parts ∷ others) more = behind-append (command_linking at number parts) others more
 
-behind-commands : (call : Call) (s : State) (others : List Handed) (links : List Kept)
-    → links_behind links (commands call s ++ others) ≡ links_behind (links_by call (after call s) links) others
-behind-commands (osc_dispatch parts bell) s others links = refl
-behind-commands (print c) s others links = refl
-behind-commands (execute byte) s others links = refl
-behind-commands (hook groups intermediates ignore final) s others links = refl
-behind-commands (put byte) s others links = refl
-behind-commands unhook s others links = refl
-behind-commands (csi_dispatch groups intermediates ignore final) s others links = refl
-behind-commands (esc_dispatch intermediates ignore final) s others links = refl
+pub handed-append : (at : Linking) (all more : List Handed) → handed_styled at (all ++ more) ≡ handed_styled at all ++ handed_styled (linking_behind at all) more
+handed-append at [] more = refl
+handed-append at (leaving row ∷ others) more =
+    ap (λ l. row_styled at row ++ l) (handed-append (row_linking at row) others more)
+    ∙ sym (append_assoc (row_styled at row) (handed_styled (row_linking at row) others) (handed_styled (linking_behind (row_linking at row) others) more))
+handed-append at (command number parts ∷ others) more = handed-append (command_linking at number parts) others more
 
-pub behind-handed : (calls : List Call) (s : State) (links : List Kept) → links_behind links (all_handed calls s) ≡ all_links calls s links
-behind-handed [] s links = refl
-behind-handed (call ∷ calls) s links =
+-- Where no row leaves, that is where the commands lead.
+behind-commands : (call : Call) (s : State) (last : List ℕ) (links : Table)
+    → linking_behind (linked last links) (commands call s) ≡ linked last (links_by call (after call s) links)
+behind-commands (osc_dispatch parts bell) s last links = refl
+behind-commands (print c) s last links = refl
+behind-commands (execute byte) s last links = refl
+behind-commands (hook groups intermediates ignore final) s last links = refl
+behind-commands (put byte) s last links = refl
+behind-commands unhook s last links = refl
+behind-commands (csi_dispatch groups intermediates ignore final) s last links = refl
+behind-commands (esc_dispatch intermediates ignore final) s last links = refl
+
+first-none : (rows more : List (List Cell)) → rows ++ more ≡ [] → rows ≡ []
+first-none [] more none = refl
+first-none (row ∷ rows) more none = cc
+
+other-none : (rows more : List (List Cell)) → rows ++ more ≡ [] → more ≡ []
+other-none [] more none = none
+other-none (row ∷ rows) more none = cc
+
+pub behind-handed : (calls : List Call) (s : State) (last : List ℕ) (links : Table) → all_left calls s ≡ []
+    → linking_behind (linked last links) (all_handed calls s) ≡ linked last (all_links calls s links)
+behind-handed [] s last links none = refl
+behind-handed (call ∷ calls) s last links none =
     let rows = rows_left call s in
-    let later = all_handed calls (after call s) in
-    ap (links_behind links) (append_assoc (map leaving rows) (commands call s) later)
-    ∙ behind-rows rows (commands call s ++ later) links
-    ∙ behind-commands call s later links
-    ∙ behind-handed calls (after call s) (links_by call (after call s) links)
+    let next = after call s in
+    let later = all_handed calls next in
+    let here = links_by call next links in
+    ap (λ (rs : List (List Cell)). linking_behind (linked last links) ((map leaving rs ++ commands call s) ++ later)) (first-none rows (all_left calls next) none)
+    ∙ behind-append (linked last links) (commands call s) later
+    ∙ ap (λ (at : Linking). linking_behind at later) (behind-commands call s last links)
+    ∙ behind-handed calls next last here (other-none rows (all_left calls next) none)
 
 -- each link that is kept may stand in the HTML
 abbrev pub AreKept : List Kept → Type 0
@@ -88,7 +110,7 @@ kept-replicate : (n : ℕ) → AreKept (replicate n (kept 0 []))
 kept-replicate zero = tt
 kept-replicate (suc n) = (IsSound-none, kept-replicate n)
 
-pub kept-none : AreKept no_links
+pub kept-none : AreKept no_places
 kept-none = kept-replicate most_kept
 
 kept-set : (links : List Kept) (i : ℕ) (it : Kept) → IsSound it.link → AreKept links → AreKept (set links i it)
@@ -119,10 +141,10 @@ kept-after number parts links are =
     kept-if (is_link_command parts && not (number == 0)) (set links (number % most_kept) (kept number (link_of parts))) links
     (kept-set links (number % most_kept) (kept number (link_of parts)) (IsSound-of parts) are) are
 
-kept-behind : (all : List Handed) (links : List Kept) → AreKept links → AreKept (links_behind links all)
-kept-behind [] links are = are
-kept-behind (leaving row ∷ others) links are = kept-behind others links are
-kept-behind (command number parts ∷ others) links are = kept-behind others (links_after number parts links) (kept-after number parts links are)
+kept-behind : (all : List Handed) (at : Linking) → AreKept at.places → AreKept (linking_behind at all).places
+kept-behind [] at are = are
+kept-behind (leaving row ∷ others) at are = kept-behind others (row_linking at row) are
+kept-behind (command number parts ∷ others) at are = kept-behind others (command_linking at number parts) (kept-after number parts at.places are)
 
 -- so all texts have such links
 links-append : (texts more : List Styled) → HaveLinks texts → HaveLinks more → HaveLinks (texts ++ more)
@@ -141,31 +163,33 @@ pub links-closing : (on : Bool) → HaveLinks (closing_styled on)
 links-closing true = (IsSound-none, tt)
 links-closing false = tt
 
-pub links-row : (links : List Kept) (row : List Cell) → AreKept links → HaveLinks (row_styled links row)
-links-row links row are =
+pub links-row : (at : Linking) (row : List Cell) → AreKept at.places → HaveLinks (row_styled at row)
+links-row at row are =
     let cells = take (used is_unprinted row) row in
-    links-append (map (cell_styled links) cells) (if goes_on row then [] else line_feed ∷ []) (links-cells links cells are) (links-line_end (goes_on row))
+    let texts = map (cell_styled at.places) cells in
+    links-append (paid (purse at.last at.spare) texts) (if goes_on row then [] else line_feed ∷ [])
+    (links-paid (purse at.last at.spare) texts (links-cells at.places cells are)) (links-line_end (goes_on row))
 
-links-rows : (links : List Kept) (rows : List (List Cell)) → AreKept links → HaveLinks (rows_styled links rows)
-links-rows links [] are = tt
-links-rows links (row ∷ rows) are = links-append (row_styled links row) (rows_styled links rows) (links-row links row are) (links-rows links rows are)
+links-handed : (at : Linking) (all : List Handed) → AreKept at.places → HaveLinks (handed_styled at all)
+links-handed at [] are = tt
+links-handed at (leaving row ∷ others) are =
+    links-append (row_styled at row) (handed_styled (row_linking at row) others) (links-row at row are) (links-handed (row_linking at row) others are)
+links-handed at (command number parts ∷ others) are = links-handed (command_linking at number parts) others (kept-after number parts at.places are)
 
-links-handed : (links : List Kept) (all : List Handed) → AreKept links → HaveLinks (handed_styled links all)
-links-handed links [] are = tt
-links-handed links (leaving row ∷ others) are = links-append (row_styled links row) (handed_styled links others) (links-row links row are) (links-handed links others are)
-links-handed links (command number parts ∷ others) are = links-handed (links_after number parts links) others (kept-after number parts links are)
+links-rows : (at : Linking) (rows : List (List Cell)) → AreKept at.places → HaveLinks (rows_styled at rows)
+links-rows at rows are = links-handed at (map leaving rows) are
 
 -- of a page
-pub links-on_page : (links : List Kept) (d : Display) → AreKept links → HaveLinks (page_styled links d)
+pub links-on_page : (links : Table) (d : Display) → AreKept links.places → HaveLinks (page_styled links d)
 links-on_page links d are =
-    links-append (rows_styled links (printed_rows d)) (closing_styled (open_after false (printed_rows d))) (links-rows links (printed_rows d) are)
+    links-append (rows_styled (linked [] links) (printed_rows d)) (closing_styled (open_after false (printed_rows d))) (links-rows (linked [] links) (printed_rows d) are)
     (links-closing (open_after false (printed_rows d)))
 
 pub links-shown : (s : State) (calls : List Call) → HaveLinks (shown_styled s calls)
 links-shown s calls =
     let all = all_handed (given_all calls) s in
-    let links = links_behind no_links all in
+    let at = linking_behind no_linking all in
     let rows = showing (after_all (given_all calls) s).display in
     let on = open_after (open_after false (all_left (given_all calls) s)) rows in
-    links-append (handed_styled no_links all) (rows_styled links rows ++ closing_styled on) (links-handed no_links all kept-none)
-    (links-append (rows_styled links rows) (closing_styled on) (links-rows links rows (kept-behind all no_links kept-none)) (links-closing on))
+    links-append (handed_styled no_linking all) (rows_styled at rows ++ closing_styled on) (links-handed no_linking all kept-none)
+    (links-append (rows_styled at rows) (closing_styled on) (links-rows at rows (kept-behind all no_linking kept-none)) (links-closing on))

@@ -1,4 +1,6 @@
 pub mod AlikeLemmas
+pub mod PaidLemmas
+pub mod PaidBoundLemmas
 pub mod RowLemmas
 pub mod ShownLemmas
 pub mod HandedLemmas

@@ -19,13 +19,16 @@ use Rattle.ansi_screen.specs.Text.{used, is_unprinted, goes_on}
 use Rattle.ansi_screen.specs.Laws.{printing, line_feed as feed}
 use Rattle.screen_text.specs.Laws.{ArePlain, LastIsNotEmpty, lines_bytes}
 use Rattle.screen_text.specs.Lines.{open_after, showing}
-use Rattle.screen_text.specs.Rows.{Handed, leaving, all_handed}
+use Rattle.screen_text.specs.Rows.{Handed, leaving, command, all_handed}
 use Rattle.screen_text.specs.Shown.{given, given_all}
 use Rattle.screen_text.proofs.RowTextLemmas.{IsPlainCell, ArePlainCells, ArePlainRows}
 use Rattle.screen_text.proofs.TextLemmas.{plain-marked_lines, lines_calls}
 use Rattle.screen_text.proofs.ThroughLemmas.{lines-only, stripped-through, through-plain}
-use Rattle.screen_html.specs.Links.{Kept, no_links, link_at}
-use Rattle.screen_html.specs.Shown.{cell_styled, line_feed, row_styled, rows_styled, handed_styled, links_behind, closing_styled, shown_styled, shown_html}
+use Rattle.screen_html.specs.Links.{Kept, no_places, link_at}
+use Rattle.screen_html.specs.Paid.{Purse, purse, purse_with, purse_behind, paid}
+use Rattle.screen_html.specs.Shown.{cell_styled, line_feed, Linking, no_linking, row_styled, row_linking, rows_styled, handed_styled, linking_behind, closing_styled, shown_styled, shown_html}
+use Rattle.screen_html.proofs.HandedLemmas.{rows_in, rows_in-handed}
+use Rattle.screen_html.proofs.PaidLemmas.{link-either}
 use Rattle.screen_html.proofs.ShownLemmas.{shown_html-all, bytes-shown}
 
 -- a text that is plain, and in no link; such texts
@@ -169,51 +172,55 @@ given-all : (calls : List Call) → AreTyped calls → AreNoCommands (given_all 
 given-all [] are = tt
 given-all (call ∷ calls) are = no-commands_append (given call) (given_all calls) (given-typed call are.0) (given-all calls are.1)
 
-handed-more : (links : List Kept) (rows : List (List Cell)) (others : List Handed)
-    → handed_styled links (map leaving rows ++ others) ≡ rows_styled links rows ++ handed_styled links others
-handed-more links [] others = refl
-handed-more links (row ∷ rows) others =
-    ap (λ l. row_styled links row ++ l) (handed-more links rows others) ∙ sym (append_assoc (row_styled links row) (rows_styled links rows) (handed_styled links others))
+abbrev IsRow : Handed → Type 0
+IsRow (leaving row) = ⊤
+IsRow (command number parts) = ⊥
 
-behind-more : (links : List Kept) (rows : List (List Cell)) (others : List Handed) → links_behind links (map leaving rows ++ others) ≡ links_behind links others
-behind-more links [] others = refl
-behind-more links (row ∷ rows) others = behind-more links rows others
+abbrev AreRows : List Handed → Type 0
+AreRows all = AllByRecursion IsRow all
 
-module _ (links : List Kept) where
-  handed-call : (call : Call) (calls : List Call) (s : State) → IsNoCommand call
-      → all_handed (call ∷ calls) s ≡ map leaving (rows_left call s) ++ all_handed calls (after call s)
-  handed-call (print c) calls s is = append_assoc (map leaving (rows_left (print c) s)) [] (all_handed calls (after (print c) s))
-  handed-call (execute byte) calls s is = append_assoc (map leaving (rows_left (execute byte) s)) [] (all_handed calls (after (execute byte) s))
-  handed-call (hook groups intermediates ignore final) calls s is = absurd is
-  handed-call (put byte) calls s is = absurd is
-  handed-call unhook calls s is = absurd is
-  handed-call (osc_dispatch parts bell) calls s is = absurd is
-  handed-call (csi_dispatch groups intermediates ignore final) calls s is = absurd is
-  handed-call (esc_dispatch intermediates ignore final) calls s is = absurd is
+rows-all : (rows : List (List Cell)) → AreRows (map leaving rows)
+rows-all [] = tt
+rows-all (row ∷ rows) = (tt, rows-all rows)
 
-  handed-rows_alone : (calls : List Call) (s : State) → AreNoCommands calls → handed_styled links (all_handed calls s) ≡ rows_styled links (all_left calls s)
-  handed-rows_alone [] s are = refl
-  handed-rows_alone (call ∷ calls) s are =
-      let rows = rows_left call s in
-      ap (handed_styled links) (handed-call call calls s are.0)
-      ∙ (handed-more links rows (all_handed calls (after call s))
-      ∙ (ap (λ l. rows_styled links rows ++ l) (handed-rows_alone calls (after call s) are.1)
-      ∙ sym (flat_map-append (row_styled links) rows (all_left calls (after call s)))))
+rows-more : (rows : List (List Cell)) (others : List Handed) → AreRows others → AreRows (map leaving rows ++ others)
+rows-more [] others are = are
+rows-more (row ∷ rows) others are = (tt, rows-more rows others are)
 
-  links-stay : (calls : List Call) (s : State) → AreNoCommands calls → links_behind links (all_handed calls s) ≡ links
-  links-stay [] s are = refl
-  links-stay (call ∷ calls) s are =
-      ap (links_behind links) (handed-call call calls s are.0)
-      ∙ (behind-more links (rows_left call s) (all_handed calls (after call s)) ∙ links-stay calls (after call s) are.1)
+handed-call : (call : Call) (calls : List Call) (s : State) → IsNoCommand call
+    → all_handed (call ∷ calls) s ≡ map leaving (rows_left call s) ++ all_handed calls (after call s)
+handed-call (print c) calls s is = append_assoc (map leaving (rows_left (print c) s)) [] (all_handed calls (after (print c) s))
+handed-call (execute byte) calls s is = append_assoc (map leaving (rows_left (execute byte) s)) [] (all_handed calls (after (execute byte) s))
+handed-call (hook groups intermediates ignore final) calls s is = absurd is
+handed-call (put byte) calls s is = absurd is
+handed-call unhook calls s is = absurd is
+handed-call (osc_dispatch parts bell) calls s is = absurd is
+handed-call (csi_dispatch groups intermediates ignore final) calls s is = absurd is
+handed-call (esc_dispatch intermediates ignore final) calls s is = absurd is
+
+rows-handed : (calls : List Call) (s : State) → AreNoCommands calls → AreRows (all_handed calls s)
+rows-handed [] s are = tt
+rows-handed (call ∷ calls) s are =
+    subst AreRows (sym (handed-call call calls s are.0))
+    (rows-more (rows_left call s) (all_handed calls (after call s)) (rows-handed calls (after call s) are.1))
+
+places-stay : (at : Linking) (all : List Handed) → AreRows all → (linking_behind at all).places ≡ at.places
+places-stay at [] are = refl
+places-stay at (leaving row ∷ others) are = places-stay (row_linking at row) others are.1
+places-stay at (command number parts ∷ others) are = absurd are.0
+
+rows_in-all : (rows : List (List Cell)) → rows_in (map leaving rows) ≡ rows
+rows_in-all [] = refl
+rows_in-all (row ∷ rows) = ap (λ l. row ∷ l) (rows_in-all rows)
 
 -- plain rows are unstyled
-no-link : link_at 0 no_links ≡ []
+no-link : link_at 0 no_places ≡ []
 unfolding link_at
 no-link = refl
 
-unstyled-cells : (cells : List Cell) → ArePlainCells cells → AreUnstyled (map (cell_styled no_links) cells)
+unstyled-cells : (cells : List Cell) → ArePlainCells cells → AreUnstyled (map (cell_styled no_places) cells)
 unstyled-cells [] are = tt
-unstyled-cells (cell ∷ cells) are = ((are.0.0, ap (λ n. link_at n no_links) are.0.1 ∙ no-link), unstyled-cells cells are.1)
+unstyled-cells (cell ∷ cells) are = ((are.0.0, ap (λ n. link_at n no_places) are.0.1 ∙ no-link), unstyled-cells cells are.1)
 
 unstyled-line_end : (on : Bool) → AreUnstyled (if on then [] else line_feed ∷ [])
 unstyled-line_end true = tt
@@ -223,14 +230,28 @@ unstyled-closing : (on : Bool) → AreUnstyled (closing_styled on)
 unstyled-closing true = ((refl, refl), tt)
 unstyled-closing false = tt
 
-unstyled-rows : (rows : List (List Cell)) → ArePlainRows rows → AreUnstyled (rows_styled no_links rows)
-unstyled-rows [] are = tt
-unstyled-rows (row ∷ rows) are =
+unstyled-paid : (it : Purse) (texts : List Styled) → AreUnstyled texts → AreUnstyled (paid it texts)
+unstyled-paid it [] are = tt
+unstyled-paid it (text ∷ texts) are = ((are.0.0, of-text text.text), unstyled-paid (purse_behind it text) texts are.1)
+  where
+    of-text : (bytes : List ℕ) → after_text text.link (purse_with it text.link).last bytes ≡ []
+    of-text [] = are.0.1
+    of-text (b ∷ bytes) = link-either (λ link. link ≡ []) it text.link are.0.1 refl
+
+unstyled-row : (at : Linking) (row : List Cell) → at.places ≡ no_places → ArePlainCells row → AreUnstyled (row_styled at row)
+unstyled-row at row none are =
     let cells = take (used is_unprinted row) row in
-    unstyled-append (row_styled no_links row) (rows_styled no_links rows)
-    (unstyled-append (map (cell_styled no_links) cells) (if goes_on row then [] else line_feed ∷ [])
-    (unstyled-cells cells (AllByRecursion-take IsPlainCell (used is_unprinted row) row are.0)) (unstyled-line_end (goes_on row)))
-    (unstyled-rows rows are.1)
+    unstyled-append (paid (purse at.last at.spare) (map (cell_styled at.places) cells)) (if goes_on row then [] else line_feed ∷ [])
+    (unstyled-paid (purse at.last at.spare) (map (cell_styled at.places) cells)
+    (subst (λ (places : List Kept). AreUnstyled (map (cell_styled places) cells)) (sym none)
+    (unstyled-cells cells (AllByRecursion-take IsPlainCell (used is_unprinted row) row are)))) (unstyled-line_end (goes_on row))
+
+unstyled-handed : (at : Linking) (all : List Handed) → at.places ≡ no_places → AreRows all → ArePlainRows (rows_in all) → AreUnstyled (handed_styled at all)
+unstyled-handed at [] none rows are = tt
+unstyled-handed at (leaving row ∷ others) none rows are =
+    unstyled-append (row_styled at row) (handed_styled (row_linking at row) others) (unstyled-row at row none are.0)
+    (unstyled-handed (row_linking at row) others none rows.1 are.1)
+unstyled-handed at (command number parts ∷ others) none rows are = absurd rows.0
 
 plain-first : (rows more : List (List Cell)) → ArePlainRows (rows ++ more) → ArePlainRows rows
 plain-first [] more are = tt
@@ -250,10 +271,14 @@ module _ (width height : ℕ) (lines : List (List ℕ)) (wide : 2 ≤ width) (so
       let rows = showing (after_all calls s).display in
       let on = open_after (open_after false left) rows in
       let plain_rows : ArePlainRows (left ++ rows) = through-plain width height lines wide some (plain-marked_lines lines are) last in
-      unstyled-append (handed_styled no_links (all_handed calls s)) (rows_styled (links_behind no_links (all_handed calls s)) rows ++ closing_styled on)
-      (subst (λ l. AreUnstyled l) (sym (handed-rows_alone no_links calls s typed)) (unstyled-rows left (plain-first left rows plain_rows)))
-      (subst (λ k. AreUnstyled (rows_styled k rows ++ closing_styled on)) (sym (links-stay no_links calls s typed))
-      (unstyled-append (rows_styled no_links rows) (closing_styled on) (unstyled-rows rows (plain-second left rows plain_rows)) (unstyled-closing on)))
+      let all = all_handed calls s in
+      let at = linking_behind no_linking all in
+      let only : AreRows all = rows-handed calls s typed in
+      unstyled-append (handed_styled no_linking all) (rows_styled at rows ++ closing_styled on)
+      (unstyled-handed no_linking all refl only (subst ArePlainRows (sym (rows_in-handed calls s)) (plain-first left rows plain_rows)))
+      (unstyled-append (rows_styled at rows) (closing_styled on)
+      (unstyled-handed at (map leaving rows) (places-stay no_linking all only) (rows-all rows) (subst ArePlainRows (sym (rows_in-all rows)) (plain-second left rows plain_rows)))
+      (unstyled-closing on))
 
 pub plain-html : (styling : Styling) (width height : ℕ) (lines : List (List ℕ)) (calls : List Call) → 2 ≤ width → 1 ≤ height → ArePlain lines → LastIsNotEmpty lines
     → AreCalls (lines_bytes lines) calls → shown_html styling (new_state width height) calls ≡ html styling calls

@@ -27,8 +27,8 @@ use Rattle.ansi_screen.specs.Leaving.{all_left}
 use Rattle.screen_text.specs.Lines.{open_after}
 use Rattle.screen_text.specs.Rows.{all_handed}
 use Rattle.screen_text.specs.Shown.{given_all, shown_text}
-use Rattle.screen_html.specs.Shown.{rows_styled, closing_styled, shown_styled, shown_html}
-use Rattle.screen_html.specs.Links.{Kept, no_links}
+use Rattle.screen_html.specs.Shown.{Linking, linked, no_linking, rows_styled, closing_styled, shown_styled, shown_html}
+use Rattle.screen_html.specs.Links.{Table, no_links}
 use Rattle.screen_html.specs.Page.{page_styled, page_html, page_text, links_by, all_links}
 use Rattle.screen_html.proofs.HandedLemmas.{AreKept, kept-none, kept-after, rows_in-handed, handed-none, behind-handed, links-on_page, links-shown}
 use Rattle.screen_html.proofs.CellLemmas.{of-shown, of-page}
@@ -96,8 +96,8 @@ module _ (styling : Styling) where
         (of-shown (λ text. IsUtf8 (escaped_text text)) IsUtf8-nil IsUtf8-escaped (λ c good. IsUtf8-stripped (print c) good.0) (IsUtf8-stripped (execute 0x0A) tt) columns rows bytes calls are))
 
 -- the links that are kept after the calls of a stream may stand in the HTML
-kept-by : (call : Call) (s : State) (links : List Kept) → AreKept links → AreKept (links_by call s links)
-kept-by (osc_dispatch parts bell) s links are = kept-after s.display.link parts links are
+kept-by : (call : Call) (s : State) (links : Table) → AreKept links.places → AreKept (links_by call s links).places
+kept-by (osc_dispatch parts bell) s links are = kept-after s.display.link parts links.places are
 kept-by (print c) s links are = are
 kept-by (execute byte) s links are = are
 kept-by (hook groups intermediates ignore final) s links are = are
@@ -106,7 +106,7 @@ kept-by unhook s links are = are
 kept-by (csi_dispatch groups intermediates ignore final) s links are = are
 kept-by (esc_dispatch intermediates ignore final) s links are = are
 
-kept-all : (calls : List Call) (s : State) (links : List Kept) → AreKept links → AreKept (all_links calls s links)
+kept-all : (calls : List Call) (s : State) (links : Table) → AreKept links.places → AreKept (all_links calls s links).places
 kept-all [] s links are = are
 kept-all (call ∷ calls) s links are = kept-all calls (after call s) (links_by call (after call s) links) (kept-by call (after call s) links are)
 
@@ -117,11 +117,11 @@ styled-page s calls none is_main =
     let given : List Call = given_all calls in
     let d : Display = (after_all given s).display in
     let rows : List (List Cell) = printed_rows d in
-    let links : List Kept = all_links given s no_links in
-    ap₂ (λ (a : List Styled) b. a ++ b) (handed-none no_links (all_handed given s) (rows_in-handed given s ∙ none))
-    (ap₂ (λ (l : List Kept) (rs : List (List Cell)). rows_styled l rs ++ closing_styled (open_after (open_after false (all_left given s)) rs)) (behind-handed given s no_links)
+    let links : Table = all_links given s no_links in
+    ap₂ (λ (a : List Styled) b. a ++ b) (handed-none no_linking (all_handed given s) (rows_in-handed given s ∙ none))
+    (ap₂ (λ (at : Linking) (rs : List (List Cell)). rows_styled at rs ++ closing_styled (open_after (open_after false (all_left given s)) rs)) (behind-handed given s [] no_links none)
     (ap (λ t. (if t then printed_rows (swapped d) else []) ++ rows) is_main)
-    ∙ ap (λ (left : List (List Cell)). rows_styled links rows ++ closing_styled (open_after (open_after false left) rows)) none)
+    ∙ ap (λ (left : List (List Cell)). rows_styled (linked [] links) rows ++ closing_styled (open_after (open_after false left) rows)) none)
 
 -- what holds of pages
 module _ (styling : Styling) where
@@ -129,10 +129,10 @@ module _ (styling : Styling) where
       → shown_html styling s calls ≡ page_html styling (all_links (given_all calls) s no_links) (after_all (given_all calls) s).display
   whole-page s calls none is_main = shown_html-all styling s calls ∙ ap (λ (texts : List Styled). all_html styling texts) (styled-page s calls none is_main)
 
-  pub read-page : (links : List Kept) (d : Display) → read (page_html styling links d) ≡ all_shown styling (page_styled links d)
+  pub read-page : (links : Table) (d : Display) → read (page_html styling links d) ≡ all_shown styling (page_styled links d)
   read-page links d = read-styled styling (page_styled links d)
 
-  pub text-page : (links : List Kept) (d : Display) → map byte_of (read (page_html styling links d)) ≡ page_text d
+  pub text-page : (links : Table) (d : Display) → map byte_of (read (page_html styling links d)) ≡ page_text d
   text-page links d = text-styled styling (page_styled links d) ∙ bytes-page links d
 
   pub links-page : (s : State) (calls : List Call)
@@ -144,12 +144,12 @@ module _ (styling : Styling) where
   pub length-page : (s : State) (calls : List Call)
       → length (page_html styling (all_links calls s no_links) (after_all calls s).display) ≤ 6527 * length (page_text (after_all calls s).display) + 11
   length-page s calls =
-      let links : List Kept = all_links calls s no_links in
+      let links : Table = all_links calls s no_links in
       let d : Display = (after_all calls s).display in
       omega (arith, length-styled styling (page_styled links d) (links-on_page links d (kept-all calls s no_links kept-none)), ap length (bytes-page links d))
 
   module _ (columns rows : ℕ) (bytes : List ℕ) (calls : List Call) (are : AreCalls bytes calls) where
-    abbrev links_there : List Kept
+    abbrev links_there : Table
     links_there = all_links calls (new_state columns rows) no_links
 
     abbrev there : Display

@@ -14,7 +14,7 @@ use Rattle.screen_text.specs.Lines.{showing}
 use Rattle.screen_text.specs.Rows.{WritesRow, WritesCommand, WritesNothing, leaving, all_handed, rows_from, after_rows, last_rows_from}
 use Rattle.screen_text.specs.Shown.{given_all}
 use Rattle.screen_html.specs.declared.blocks.BlockRows.{BlockRows}
-use Rattle.screen_html.specs.Links.{no_links}
+use Rattle.screen_html.specs.Shown.{no_linking}
 use Rattle.screen_html.specs.Writer.{Between, row_html, after_row, after_command, closing_html, output_of, standing_of}
 
 -- Where a writer of blocks stands between two rows: where what is in them does, and how many lines the block that is
@@ -28,7 +28,7 @@ blocked inside left = record { inside = inside; left = left }
 
 -- before any row
 abbrev pub at_start : Styling → Between
-at_start styling = record { styling = styling; shown = no_element; links = no_links; is_open = false }
+at_start styling = record { styling = styling; shown = no_element; linking = no_linking; is_open = false }
 
 abbrev pub blocked_at_start : Styling → Blocked
 blocked_at_start styling = blocked (at_start styling) 0

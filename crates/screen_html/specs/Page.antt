@@ -7,15 +7,16 @@ use Rattle.ansi_screen.specs.After.{State, after}
 use Rattle.ansi_screen.specs.Display.{Display}
 use Rattle.ansi_screen.specs.Text.{printed_rows}
 use Rattle.screen_text.specs.Lines.{rows_text, open_after, closing}
-use Rattle.screen_html.specs.Links.{Kept, links_after}
-use Rattle.screen_html.specs.Shown.{rows_styled, closing_styled}
+use Rattle.screen_html.specs.Links.{Table, table_after}
+use Rattle.screen_html.specs.Shown.{linked, rows_styled, closing_styled}
 
--- the rows up to the last in which something was printed, in the styles of their cells and in the links that are kept;
--- a line that is open at the end is ended
-abbrev pub page_styled : List Kept → Display → List Styled
-page_styled links d = rows_styled links (printed_rows d) ++ closing_styled (open_after false (printed_rows d))
+-- the rows up to the last in which something was printed, in the styles of their cells and in the links that are kept
+-- and paid; a line that is open at the end is ended
+abbrev pub page_styled : Table → Display → List Styled
+page_styled links d =
+    rows_styled (linked [] links) (printed_rows d) ++ closing_styled (open_after false (printed_rows d))
 
-abbrev pub page_html : Styling → List Kept → Display → List ℕ
+abbrev pub page_html : Styling → Table → Display → List ℕ
 page_html styling links d = all_html styling (page_styled links d)
 
 -- the same as text
@@ -24,11 +25,11 @@ page_text d = rows_text (printed_rows d) ++ closing (open_after false (printed_r
 
 -- The links that are kept after a call that has led to this screen: a command may have begun one, whose number is then
 -- in force.
-abbrev pub links_by : Call → State → List Kept → List Kept
-links_by (osc_dispatch parts bell_terminated) s links = links_after s.display.link parts links
+abbrev pub links_by : Call → State → Table → Table
+links_by (osc_dispatch parts bell_terminated) s links = table_after s.display.link parts links
 links_by call s links = links
 
 -- and after a list of calls, from a screen on
-abbrev pub all_links : List Call → State → List Kept → List Kept
+abbrev pub all_links : List Call → State → Table → Table
 all_links [] s links = links
 all_links (call ∷ calls) s links = all_links calls (after call s) (links_by call (after call s) links)

@@ -4,35 +4,35 @@ use Rattle.anstyle_parse.specs.declared.io.devices.Sink.{Ghosts as SinkOf}
 use Rattle.anstyle_parse.specs.declared.io.output.Output.{Output}
 use Rattle.ansi_html.specs.declared.scheme.Styling.{Styling}
 use Rattle.ansi_html.specs.Html.{Element, element_end}
+use Rattle.ansi_html.specs.ShownLinks.{link_in}
 use Rattle.ansi_html.specs.Styled.{styled_html, shown_after, output_of as styled_output, styling_of, shown_in}
 use Rattle.ansi_screen.specs.declared.cell.Cell.{Cell}
 use Rattle.ansi_screen.specs.Text.{goes_on}
 use Rattle.screen_text.specs.Rows.{WritesRow, WritesCommand, WritesNothing}
 use Rattle.screen_html.specs.declared.rows.HtmlRows.{HtmlRows}
-use Rattle.screen_html.specs.Links.{Kept, links_after}
-use Rattle.screen_html.specs.Shown.{row_styled, closing_styled}
+use Rattle.screen_html.specs.Shown.{Linking, linked, row_styled, row_linking, command_linking, closing_styled}
 
--- Where it stands between two rows: how it says a style, the element of the last text, the links that are kept,
--- and whether a line is open.
+-- Where it stands between two rows: how it says a style, the element of the last text, where its links stand, and
+-- whether a line is open.
 pub record Between : Type 0 where
   pub styling : Styling
   pub shown : Element
-  pub links : List Kept
+  pub linking : Linking
   pub is_open : Bool
 
 abbrev pub row_html : Between → List Cell → List ℕ
-row_html at row = styled_html at.styling at.shown (row_styled at.links row)
+row_html at row = styled_html at.styling at.shown (row_styled at.linking row)
 
 abbrev pub after_row : Between → List Cell → Between
 after_row at row = record {
   styling = at.styling;
-  shown = shown_after at.shown (row_styled at.links row);
-  links = at.links;
+  shown = shown_after at.shown (row_styled at.linking row);
+  linking = row_linking at.linking row;
   is_open = goes_on row;
 }
 
 abbrev pub after_command : Between → ℕ → List (List ℕ) → Between
-after_command at number parts = record at { links = links_after number parts at.links }
+after_command at number parts = record at { linking = command_linking at.linking number parts }
 
 abbrev pub closing_html : Between → List ℕ
 closing_html at =
@@ -47,7 +47,7 @@ abbrev pub standing_of : {W : Type 0} → HtmlRows W → Between
 standing_of rows = record {
   styling = styling_of rows.writer;
   shown = shown_in rows.writer;
-  links = rows.links;
+  linking = linked (link_in rows.last) rows.links;
   is_open = rows.is_open;
 }
 

@@ -14,10 +14,13 @@ ghost use Rattle.ansi_html.specs.Styled.{all_shown};
 ghost use Rattle.ansi_screen.specs.After.{State, new_state, after_all};
 ghost use Rattle.ansi_screen.specs.Display.{Display};
 ghost use Rattle.ansi_screen.specs.Leaving.{all_left};
+ghost use Rattle.ansi_screen.specs.Text.{goes_on};
+ghost use Rattle.ansi_screen.specs.declared.cell.Cell.{Cell};
 ghost use Rattle.screen_text.specs.Laws.{ArePlain, LastIsNotEmpty, lines_bytes};
 ghost use Rattle.screen_text.specs.Shown.{given_all, shown_text};
-ghost use Rattle.screen_html.specs.Links.{Kept, most_kept, no_links, numbered, AreLinkCommands, link_at};
-ghost use Rattle.screen_html.specs.Shown.{shown_styled, shown_html};
+ghost use Rattle.screen_html.specs.Links.{Kept, Table, most_kept, no_links, numbered, AreLinkCommands, feed_earns, link_at};
+ghost use Rattle.screen_html.specs.Paid.{links_cost};
+ghost use Rattle.screen_html.specs.Shown.{Linking, no_linking, cells_styled, row_styled, row_linking, command_linking, begun_cost, line_end, shown_styled, shown_html};
 ghost use Rattle.screen_html.specs.Blocks.{shown_blocked};
 ghost use Rattle.screen_html.specs.Page.{page_styled, page_html, page_text, all_links};
 
@@ -34,18 +37,22 @@ pub fn last_links()
 
 /// The HTML of what a screen shows: reading it gives each cell's characters with the declarations of its style or its
 /// classes, and its link (`read_back`), and so the text of the rows that show (`text`). With the links of the stream
-/// that led there, each begins with https://, http:// or mailto: (`links`), and it has at most 6527 bytes for each byte
-/// of the text, and 11 more (`bound`). From a new screen on its lines are those of the text, no markup comes in
-/// (`grammar`), and it is UTF-8. Where no row has left and the main screen shows, it is all that `convert_shown` writes
-/// (`whole`).
+/// that led there, each begins with https://, http:// or mailto: (`links`), and it has at most 452 bytes for each byte
+/// of the text, those of the links that the stream begins, each once, and 111 more (`bound`); and at most 6527 for each
+/// byte of the text, and 11 more (`text_bound`). From a new screen on its lines are those of the text, no markup comes
+/// in (`grammar`), and it is UTF-8. Where no row has left and the main screen shows, it is all that `convert_shown`
+/// writes (`whole`).
 pub fn page()
-    ensures read_back { (styling : Styling) (links : List Kept) (d : Display)
+    ensures read_back { (styling : Styling) (links : Table) (d : Display)
         → read (page_html styling links d) ≡ all_shown styling (page_styled links d) }
-    ensures text { (styling : Styling) (links : List Kept) (d : Display)
+    ensures text { (styling : Styling) (links : Table) (d : Display)
         → map byte_of (read (page_html styling links d)) ≡ page_text d }
     ensures links { (styling : Styling) (s : State) (calls : List Call) → AllByRecursion IsLink
         (map href_of (read (page_html styling (all_links calls s no_links) (after_all calls s).display))) }
     ensures bound { (styling : Styling) (s : State) (calls : List Call)
+        → length (page_html styling (all_links calls s no_links) (after_all calls s).display)
+        ≤ 452 * length (page_text (after_all calls s).display) + (begun_cost calls + 111) }
+    ensures text_bound { (styling : Styling) (s : State) (calls : List Call)
         → length (page_html styling (all_links calls s no_links) (after_all calls s).display)
         ≤ 6527 * length (page_text (after_all calls s).display) + 11 }
     ensures lines { (styling : Styling) (columns rows : ℕ) (bytes : List ℕ) (calls : List Call) → AreCalls bytes calls
@@ -61,6 +68,18 @@ pub fn page()
     ensures whole { (styling : Styling) (s : State) (calls : List Call) → all_left (given_all calls) s ≡ []
         → (after_all (given_all calls) s).display.is_alternate ≡ false → shown_html styling s calls
         ≡ page_html styling (all_links (given_all calls) s no_links) (after_all (given_all calls) s).display }
+{}
+
+/// Which links are left out: none of a row where they cost no more than is spare (`kept`). 100 bytes are spare at the
+/// start (`start`), and after a row that ends a line (`fed`), whatever commands come then (`told`): so a row after a
+/// line's end keeps its links where these have 100 bytes in all.
+pub fn paid_links()
+    ensures kept { (at : Linking) (row : List Cell) → links_cost at.last (cells_styled at.places row) ≤ at.spare
+        → row_styled at row ≡ cells_styled at.places row ++ line_end row }
+    ensures start { feed_earns ≤ no_linking.spare }
+    ensures fed { (at : Linking) (row : List Cell) → goes_on row ≡ false → feed_earns ≤ (row_linking at row).spare }
+    ensures told { (at : Linking) (number : ℕ) (parts : List (List ℕ)) → feed_earns ≤ at.spare
+        → feed_earns ≤ (command_linking at number parts).spare }
 {}
 
 /// Plain text needs no screen: of lines of characters of one column or two, each with a line feed, of which the last is

@@ -29,7 +29,7 @@ ghost use Rattle.ansi_html.specs.Reader.{byte_of, href_of, read, drawn};
 ghost use Rattle.ansi_html.specs.Grammar.{AreReadable, IsFragment};
 ghost use Rattle.ansi_screen.specs.After.{new_state};
 ghost use Rattle.screen_text.specs.Shown.{shown_text};
-ghost use Rattle.screen_html.specs.Shown.{shown_styled, left_html, ending_html, shown_html};
+ghost use Rattle.screen_html.specs.Shown.{shown_styled, left_html, ending_html, shown_html, begun_cost};
 
 mod alike;
 mod blocks;
@@ -37,6 +37,7 @@ pub mod laws;
 mod page;
 mod rows;
 mod runs;
+mod spare;
 mod table;
 
 use ansi_html::Styling;
@@ -57,7 +58,9 @@ pub use table::{LinkMemory, LinkTable};
 /// references. Nothing else is written, so no input brings in markup. The fragment wants of its page what that of
 /// [`ansi_html::convert`] wants. A cell has the link that was in force as it was printed, where it is one that is
 /// shown there: until OSC 8 ends it or begins another, or RIS. Of a stream the last 1,024 links that began are kept:
-/// a row that leaves later, or still shows, has the others no more. The cursor is not shown.
+/// a row that leaves later, or still shows, has the others no more. A link is begun anew in each line, and is left out
+/// where it has more bytes than are spare: those of the link that each OSC 8 began, once, and 100 for each line feed,
+/// up to 1,000,000. The cursor is not shown.
 ///
 /// The stream may begin on any screen ([`Scrollable::of`](ansi_screen::Scrollable::of)). The bytes are read in pieces of
 /// at most 4096 and go to a new parser; no memory is taken. The writer is
@@ -113,8 +116,12 @@ pub fn convert_shown<R: Source, W: Sink>(
     ensures utf8 { (columns rows : ℕ) (bytes : List ℕ) (calls : List Call) → AreCalls bytes calls
         → IsUtf8 (shown_html styling (new_state columns rows) calls) }
 
+    // It has at most 452 bytes for each byte of the text, those of the links that begin, each once, and 111 more.
+    ensures bound { (calls : List Call) → length (shown_html styling screen calls)
+        ≤ 452 * length (shown_text screen calls) + (begun_cost calls + 111) }
+
     // It has at most 6527 bytes for each byte of the text, and 11 more: each can stand in a link of its own.
-    ensures bound { (calls : List Call)
+    ensures text_bound { (calls : List Call)
         → length (shown_html styling screen calls) ≤ 6527 * length (shown_text screen calls) + 11 }
 {
     let mut output = Output::new(writer);

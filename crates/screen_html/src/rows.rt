@@ -6,11 +6,13 @@ ghost use Rattle.ansi_screen.specs.Text.{marks_text};
 ghost use Rattle.ansi_html.specs.Blocks.{block_begin, block_end};
 ghost use Rattle.ansi_html.specs.Html.{escaped_text};
 ghost use Rattle.ansi_html.specs.Styled.{output_of as styled_output, styling_of, shown_in, WritesStyled};
-ghost use Rattle.screen_html.specs.Shown.{cell_styled, line_feed, row_styled};
+ghost use Rattle.screen_html.specs.Paid.{purse_of, paid, purse_after};
+ghost use Rattle.screen_html.specs.Shown.{cell_styled, line_feed, linking_of, row_styled, row_linking};
 
 use crate::runs::{BLOCK, copy_run, put_run};
+use crate::spare::{FEED_EARNS, begin_link, credited};
 use crate::table::{LinkMemory, LinkTable};
-use ansi_html::{StyledWriter, Styling};
+use ansi_html::{Link, StyledWriter, Styling};
 use ansi_screen::{Cell, LeftOut, Marks, TakeCommand, TakeRow, goes_on, used_of_written};
 use ansi_style::Style;
 use anstyle_parse::io::{Output, Sink};
@@ -33,30 +35,50 @@ fn put_marks<W: Sink>(writer: &mut StyledWriter<W>, marks: Marks)
     }
 }
 
-/// Writes the character of a cell, unless it is a right half, and its marks, in its style and its link.
-fn put_cell<W: Sink>(writer: &mut StyledWriter<W>, links: &LinkTable, cell: Cell)
-    ensures { WritesStyled W.Sink writer.old (cell_styled links.now cell ∷ []) writer.new }
+/// Writes the character of a cell, unless it is a right half, and its marks, in its style and its link, where that is
+/// the last one or is paid with what is spare.
+fn put_cell<W: Sink>(
+    writer: &mut StyledWriter<W>,
+    links: &LinkTable,
+    last: &mut Link,
+    spare: &mut usize,
+    cell: Cell,
+)
+    ensures written { WritesStyled W.Sink writer.old
+        (paid (purse_of last.old spare.old) (cell_styled links.now.places cell ∷ [])) writer.new }
+    ensures spent { purse_of last.new spare.new
+        ≡ purse_after (purse_of last.old spare.old) (cell_styled links.now.places cell ∷ []) }
 {
     if !cell.is_right() {
-        writer.select(cell.style, links.link(cell.link));
+        begin_link(links, cell.link, last, spare);
+        writer.select(cell.style, last);
         writer.put_char(cell.character);
         put_marks(writer, cell.marks);
     }
 }
 
 /// The same of cells, one after another: those of a run at once.
-fn put_cells<W: Sink>(writer: &mut StyledWriter<W>, links: &LinkTable, cells: &[Cell])
-    ensures { WritesStyled W.Sink writer.old (map (cell_styled links.now) cells.now) writer.new }
+fn put_cells<W: Sink>(
+    writer: &mut StyledWriter<W>,
+    links: &LinkTable,
+    last: &mut Link,
+    spare: &mut usize,
+    cells: &[Cell],
+)
+    ensures written { WritesStyled W.Sink writer.old
+        (paid (purse_of last.old spare.old) (map (cell_styled links.now.places) cells.now)) writer.new }
+    ensures spent { purse_of last.new spare.new
+        ≡ purse_after (purse_of last.old spare.old) (map (cell_styled links.now.places) cells.now) }
 {
     let mut block = [0; BLOCK];
     let mut rest = cells;
     'rest: while let Some((first, further)) = rest.split_first() {
         let count = copy_run(first, rest, &mut block);
         if count == 0 {
-            put_cell(writer, links, *first);
+            put_cell(writer, links, last, spare, *first);
             rest = further;
         } else {
-            put_run(writer, links, first, &block[..count]);
+            put_run(writer, links, last, spare, first, &block[..count]);
             let (_, others) = rest.split_at(count);
             rest = others;
         }
@@ -76,26 +98,36 @@ pub(crate) fn put_line_feed<W: Sink>(writer: &mut StyledWriter<W>, links: &LinkT
 pub(crate) fn put_row<W: Sink>(
     writer: &mut StyledWriter<W>,
     links: &LinkTable,
+    last: &mut Link,
+    spare: &mut usize,
     row: &[Cell],
     written: usize,
 )
     requires within { written ≤ length row.now }
     requires rest { IsBlankFrom written row.now }
-    ensures { WritesStyled W.Sink writer.old (row_styled links.now row.now) writer.new }
+    ensures written { WritesStyled W.Sink writer.old
+        (row_styled (linking_of last.old links.now.places spare.old) row.now) writer.new }
+    ensures linking { linking_of last.new links.now.places spare.new
+        ≡ row_linking (linking_of last.old links.now.places spare.old) row.now }
 {
     let end = used_of_written(row, written, LeftOut::Unprinted);
-    put_cells(writer, links, &row[..end]);
+    put_cells(writer, links, last, spare, &row[..end]);
     if !goes_on(row) {
         put_line_feed(writer, links);
+        last.assign(links.none());
+        *spare = credited(FEED_EARNS, *spare);
     }
 }
 
 /// Writes rows as HTML: each run of equal style and link in a span or a link, and a row that goes on and the next
-/// one as one line. No span and no link goes over a line's end.
+/// one as one line. No span and no link goes over a line's end. A link is begun where what is spare pays for it, and is
+/// else left out.
 #[derive(Drop)]
 pub struct HtmlRows<W> {
     writer: StyledWriter<W>,
     links: LinkTable,
+    /// The link of the last text.
+    last: Link,
     /// The last row goes on.
     is_open: bool,
 }
@@ -103,7 +135,7 @@ pub struct HtmlRows<W> {
 impl<W: Sink> HtmlRows<W> {
     ghost use Rattle.std.specs.Prelude.{false};
     ghost use Rattle.ansi_html.specs.Html.{no_element};
-    ghost use Rattle.screen_html.specs.Links.{no_links};
+    ghost use Rattle.screen_html.specs.Shown.{no_linking};
     ghost use Rattle.screen_html.specs.Writer.{output_of, standing_of};
 
     /// One that writes to this output, says styles in this way, keeps links in this memory, and has taken no row.
@@ -112,13 +144,14 @@ impl<W: Sink> HtmlRows<W> {
         ensures new { standing_of result ≡ record {
           styling = styling;
           shown = no_element;
-          links = no_links;
+          linking = no_linking;
           is_open = false;
         } }
     {
         HtmlRows {
             writer: StyledWriter::new(styling, output),
             links: memory.into_table(),
+            last: Link::none(),
             is_open: false,
         }
     }
@@ -148,7 +181,16 @@ impl<W: Sink> TakeRow for HtmlRows<W> {
     ghost passes_on = { PassesOn W.Sink };
 
     fn take_row(&mut self, row: &[Cell], written: usize) {
-        put_row(&mut self.writer, &self.links, row, written);
+        let mut spare = self.links.spare();
+        put_row(
+            &mut self.writer,
+            &self.links,
+            &mut self.last,
+            &mut spare,
+            row,
+            written,
+        );
+        self.links.set_spare(spare);
         self.is_open = goes_on(row);
     }
 
@@ -157,7 +199,7 @@ impl<W: Sink> TakeRow for HtmlRows<W> {
     }
 }
 
-/// A link that begins is kept by its number.
+/// A link that begins is kept by its number, and earns what it costs.
 impl<W: Sink> TakeCommand for HtmlRows<W> {
     ghost use Rattle.screen_html.specs.Writer.{TakesCommand};
 
@@ -195,6 +237,7 @@ impl<W: Sink> WriteRows<W> for HtmlRows<W> {
             mut writer,
             links,
             is_open,
+            ..
         } = self;
         if is_open {
             put_line_feed(&mut writer, &links);

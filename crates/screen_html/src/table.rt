@@ -3,6 +3,7 @@ ghost use Rattle.std.specs.Prelude.{◌≡◌, ◌<◌, ◌≤◌, ◌%◌, ℕ,
 ghost use Rattle.ansi_html.specs.ShownLinks.{link_in};
 ghost use Rattle.screen_html.specs.Places.{kept_in, all_kept};
 
+use crate::spare::{FEED_EARNS, credited_link};
 use ansi_html::{Link, is_link_command};
 use std::alloc::{AllocError, Global};
 use std::marker::Model;
@@ -24,10 +25,10 @@ pub struct LinkMemory {
 }
 
 impl Model for LinkMemory {
-    ghost use Rattle.std.specs.Prelude.{◌≡◌, List};
-    ghost use Rattle.screen_html.specs.Links.{Kept, no_links};
+    ghost use Rattle.std.specs.Prelude.{◌≡◌};
+    ghost use Rattle.screen_html.specs.Links.{Table, no_links};
 
-    ghost Value = { List Kept };
+    ghost Value = { Table };
 
     ghost view = { λ memory. memory.table };
 
@@ -52,47 +53,51 @@ impl LinkMemory {
     }
 }
 
-/// The links of a stream by the numbers that a screen gives them: the last 1,024 that began.
+/// The links of a stream by the numbers that a screen gives them: the last 1,024 that began; and how many bytes of HTML
+/// are spare to begin links with.
 #[derive(Drop)]
 pub struct LinkTable {
     /// A link's place is its number modulo `MOST_KEPT`. Those past the last place that had a link keep none: there is
     /// memory for them, which is not written.
     places: Vec<Place>,
     none: Link,
+    spare: usize,
 }
 
 impl Model for LinkTable {
-    ghost use Rattle.std.specs.Prelude.{◌≡◌, ◌≤◌, [], List, length, vec_capacity};
+    ghost use Rattle.std.specs.Prelude.{◌≡◌, ◌≤◌, [], length, vec_capacity};
     ghost use Rattle.ansi_html.specs.ShownLinks.{link_in};
-    ghost use Rattle.screen_html.specs.Links.{Kept, most_kept};
+    ghost use Rattle.screen_html.specs.Links.{Table, table, most_kept};
     ghost use Rattle.screen_html.specs.Places.{all_kept};
 
-    ghost Value = { List Kept };
+    ghost Value = { Table };
 
-    ghost view = { λ table. all_kept table.places.items };
+    ghost view = { λ links. table (all_kept links.places.items) links.spare };
 
-    ghost invariant = { λ table. (length table.places.items ≤ most_kept) × (most_kept ≤ vec_capacity table.places)
-        × (link_in table.none ≡ []) };
+    ghost invariant = { λ links. (length links.places.items ≤ most_kept) × (most_kept ≤ vec_capacity links.places)
+        × (link_in links.none ≡ []) };
 }
 
 impl LinkTable {
-    ghost use Rattle.screen_html.specs.Links.{no_links, link_at, links_after};
+    ghost use Rattle.screen_html.specs.Links.{table, no_links, link_at, table_after};
 
-    /// One that has no link yet. `Err` means that memory is wanting.
+    /// One that has no link yet; what a line feed earns is spare. `Err` means that memory is wanting.
     pub fn new(alloc: Global) -> Result<LinkTable, AllocError>
         ensures { IfOk result (λ table. table ≡ no_links) }
     {
         Ok(LinkTable {
             places: Vec::with_capacity(alloc, MOST_KEPT)?,
             none: Link::none(),
+            spare: FEED_EARNS,
         })
     }
 
-    /// Forgets all links.
+    /// Forgets all links, and what was spare but for what a line feed earns.
     pub fn clear(&mut self)
         ensures { self.new ≡ no_links }
     {
         self.places.clear();
+        self.spare = FEED_EARNS;
     }
 
     /// Another one that keeps the same links. `Err` means that memory is wanting.
@@ -104,7 +109,22 @@ impl LinkTable {
         Ok(LinkTable {
             places,
             none: Link::none(),
+            spare: self.spare,
         })
+    }
+
+    /// What is spare to begin links with.
+    pub(crate) fn spare(&self) -> usize
+        ensures { result ≡ self.now.spare }
+    {
+        self.spare
+    }
+
+    /// So much is left of it.
+    pub(crate) fn set_spare(&mut self, spare: usize)
+        ensures { self.new ≡ table self.old.places spare }
+    {
+        self.spare = spare;
     }
 
     /// No link.
@@ -117,7 +137,7 @@ impl LinkTable {
     /// The link of a number; none where it is no more kept.
     #[tactic(auto, unfolding(crate::specs::Links::link_at))]
     pub fn link(&self, number: u32) -> &Link
-        ensures { link_in result.now ≡ link_at number self.now }
+        ensures { link_in result.now ≡ link_at number self.now.places }
     {
         let places = self.places.as_slice();
         let place = number as usize % MOST_KEPT;
@@ -128,10 +148,10 @@ impl LinkTable {
         }
     }
 
-    /// Keeps the link of a command, after which the one of this number is in force.
-    #[tactic(auto, unfolding(crate::specs::Links::links_after))]
+    /// Keeps the link of a command, after which the one of this number is in force. It earns what beginning it costs.
+    #[tactic(auto, unfolding(crate::specs::Links::links_after, crate::specs::Links::spare_after))]
     pub fn take_command(&mut self, number: u32, parts: &[&[u8]])
-        ensures { self.new ≡ links_after number (map (λ part. part.now) parts.now) self.old }
+        ensures { self.new ≡ table_after number (map (λ part. part.now) parts.now) self.old }
     {
         if is_link_command(parts) && number != 0 {
             let place = number as usize % MOST_KEPT;
@@ -139,6 +159,7 @@ impl LinkTable {
             let place = &mut self.places.as_mut_slice()[place];
             place.number = number;
             place.link.select(parts);
+            self.spare = credited_link(place.link.uri(), self.spare);
         }
     }
 }

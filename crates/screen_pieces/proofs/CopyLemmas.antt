@@ -11,7 +11,7 @@ use Rattle.ansi_screen.specs.Laws.{with_shown}
 use Rattle.ansi_screen.specs.History.{Kept}
 use Rattle.ansi_screen.specs.Leaving.{unkept, all_left}
 use Rattle.ansi_screen.proofs.PictureLemmas.{IsBeside, instead, instead-after, none-beside, same-after_all, unkept-after_all}
-use Rattle.screen_html.specs.Links.{Kept as KeptLink}
+use Rattle.screen_html.specs.Links.{Table}
 use Rattle.screen_html.specs.Page.{links_by, all_links}
 use Rattle.screen_pieces.specs.declared.terminal.Terminal.{Terminal}
 use Rattle.screen_pieces.specs.History.{KeepsLeft}
@@ -23,7 +23,7 @@ module _ (p : Picture) (other : Option Kept → Option Kept) (beside : IsBeside 
   this = instead p other beside
 
   -- the links that begin
-  links_by-instead : (call : Call) (s : State) (links : List KeptLink) → links_by call (this s) links ≡ links_by call s links
+  links_by-instead : (call : Call) (s : State) (links : Table) → links_by call (this s) links ≡ links_by call s links
   links_by-instead (print c) s links = refl
   links_by-instead (execute byte) s links = refl
   links_by-instead (hook groups intermediates ignore final) s links = refl
@@ -33,7 +33,7 @@ module _ (p : Picture) (other : Option Kept → Option Kept) (beside : IsBeside 
   links_by-instead (csi_dispatch groups intermediates ignore final) s links = refl
   links_by-instead (esc_dispatch intermediates ignore final) s links = refl
 
-  all_links-instead : (calls : List Call) (s : State) (links : List KeptLink) → all_links calls (this s) links ≡ all_links calls s links
+  all_links-instead : (calls : List Call) (s : State) (links : Table) → all_links calls (this s) links ≡ all_links calls s links
   all_links-instead [] s links = refl
   all_links-instead (call ∷ calls) s links =
       let next : after call (this s) ≡ this (after call s) = instead-after p other beside call s in
@@ -49,7 +49,7 @@ left-led since calls made first screen led =
     ∙ (ap (all_left made) (led ∙ (same-after_all since calls (unkept first) ∙ ap (with_shown since) (unkept-after_all calls first)))
     ∙ (all_left-since since made (unkept (after_all calls first)) ∙ all_left-unkept made (after_all calls first)))
 
-pub links-led : (since : Picture) (calls made : List Call) (first screen : State) (links : List KeptLink)
+pub links-led : (since : Picture) (calls made : List Call) (first screen : State) (links : Table)
     → unkept screen ≡ after_all calls (with_shown since (unkept first))
     → all_links made screen links ≡ all_links made (after_all calls first) links
 links-led since calls made first screen links led =

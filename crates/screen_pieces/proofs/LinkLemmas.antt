@@ -7,17 +7,17 @@ use Rattle.ansi_screen.specs.Display.{Picture}
 use Rattle.ansi_screen.specs.Laws.{with_shown}
 use Rattle.ansi_screen.specs.Leaving.{unkept}
 use Rattle.ansi_screen.specs.After.{State, Shows, after, after_all}
-use Rattle.screen_html.specs.Links.{Kept as KeptLink, no_links}
+use Rattle.screen_html.specs.Links.{Table, no_links}
 use Rattle.screen_html.specs.Page.{all_links}
 use Rattle.screen_pieces.specs.Terminal.{KeepsLinks}
 use Rattle.screen_pieces.specs.WatchedProof.{all_links-append}
 use Rattle.screen_pieces.proofs.CopyLemmas.{links-led}
 
-pub links-printed : (characters : List ℕ) (s : State) (links : List KeptLink) → links ≡ all_links (map print characters) s links
+pub links-printed : (characters : List ℕ) (s : State) (links : Table) → links ≡ all_links (map print characters) s links
 links-printed [] s links = refl
 links-printed (c ∷ characters) s links = links-printed characters (after (print c) s) links
 
-pub links-more : (first screen : State) (since : Picture) (before more : List ℕ) (made : List Call) (old new : List KeptLink) → Continues before more made
+pub links-more : (first screen : State) (since : Picture) (before more : List ℕ) (made : List Call) (old new : Table) → Continues before more made
     → Shows (with_shown since (unkept first)) before (unkept screen) → KeepsLinks first before old → new ≡ all_links made screen old
     → KeepsLinks first (before ++ more) new
 links-more first screen since before more made old new continues shows kept led =

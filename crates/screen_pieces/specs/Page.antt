@@ -5,7 +5,7 @@ use Rattle.ansi_html.specs.declared.scheme.Styling.{Styling}
 use Rattle.ansi_html.specs.declared.scheme.Styling.TheVariants.{Inline, Classes}
 use Rattle.screen_html.specs.Page.{page_html}
 use Rattle.screen_pieces.specs.declared.terminal.Terminal.{Terminal}
-use Rattle.screen_pieces.specs.Terminal.{display_of, links_of}
+use Rattle.screen_pieces.specs.Terminal.{display_of, table_of}
 
 -- any other number is both schemes
 abbrev pub styling_numbered : ℕ → Styling
@@ -16,4 +16,4 @@ styling_numbered number =
     else Inline Both
 
 abbrev pub html_of : (styling : ℕ) → Terminal → List ℕ
-html_of styling terminal = page_html (styling_numbered styling) (links_of terminal) (display_of terminal)
+html_of styling terminal = page_html (styling_numbered styling) (table_of terminal) (display_of terminal)

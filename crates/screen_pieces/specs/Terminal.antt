@@ -13,7 +13,7 @@ use Rattle.ansi_screen.specs.Display.{Display, row_cells, shown_cells}
 use Rattle.ansi_screen.specs.History.{Kept, nothing_kept}
 use Rattle.ansi_screen.specs.Leaving.{unkept}
 use Rattle.ansi_screen.specs.Laws.{with_shown}
-use Rattle.screen_html.specs.Links.{Kept as KeptLink, no_links}
+use Rattle.screen_html.specs.Links.{Kept as KeptLink, Table, no_links}
 use Rattle.screen_html.specs.Page.{all_links}
 use Rattle.screen_pieces.specs.declared.cell.CellBytes.{CellBytes}
 use Rattle.screen_pieces.specs.declared.modes.ModeBytes.{ModeBytes}
@@ -32,12 +32,15 @@ display_of terminal = (screen_of terminal).display
 abbrev pub history_of : Terminal → Kept
 history_of terminal = kept_of (display_of terminal).history
 
--- the links that it keeps, by their numbers
+-- its table of links, and those that this keeps, by their numbers
+abbrev pub table_of : Terminal → Table
+table_of terminal = terminal.watched.links
+
 abbrev pub links_of : Terminal → List KeptLink
-links_of terminal = terminal.watched.links
+links_of terminal = (table_of terminal).places
 
 -- Kept are the last of the links that began by the bytes, from a first screen on.
-abbrev pub KeepsLinks : State → List ℕ → List KeptLink → Type 0
+abbrev pub KeepsLinks : State → List ℕ → Table → Type 0
 KeepsLinks first bytes links = (calls : List Call) × AreCalls bytes calls × (links ≡ all_links calls first no_links)
 
 -- the first screen of a stream, with the picture from which on this one notes what changes: no call reads that, nor what
@@ -51,13 +54,13 @@ pub record StandsAfter (first : State) (bytes : List ℕ) (terminal : Terminal) 
   pub shows : Shows (begun first terminal) bytes (unkept (screen_of terminal))
   pub parser : IsAfter front_of terminal.parser bytes
   pub history : KeepsLeft first bytes (display_of terminal).history
-  pub links : KeepsLinks first bytes (links_of terminal)
+  pub links : KeepsLinks first bytes (table_of terminal)
 
 -- Another one stands where it stands, in all that it shows and keeps; what it notes is what changes from now on.
 pub record IsCopy (terminal copy : Terminal) : Type 0 where
   pub screen : screen_of copy ≡ as_shown (screen_of terminal)
   pub parser : copy.parser ≡ terminal.parser
-  pub links : links_of copy ≡ links_of terminal
+  pub links : table_of copy ≡ table_of terminal
 
 -- There is as much room as before for rows that leave.
 abbrev pub SameRoom : (old new : Terminal) → Type 0

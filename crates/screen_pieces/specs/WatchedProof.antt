@@ -5,12 +5,12 @@ use Rattle.anstyle_parse.specs.Stream.Call.{Call}
 use Rattle.anstyle_parse.specs.Stream.Texts.{FollowsCalls}
 use Rattle.ansi_screen.specs.After.{State, after, after_all}
 use Rattle.ansi_screen.specs.TextsProof.{becomes-more}
-use Rattle.screen_html.specs.Links.{Kept as KeptLink}
+use Rattle.screen_html.specs.Links.{Table}
 use Rattle.screen_html.specs.Page.{links_by, all_links}
 use Rattle.screen_pieces.specs.declared.watched.Watched.{Watched}
 use Rattle.screen_pieces.specs.Watched.{Watches, WatchesAll}
 
-pub all_links-append : (calls more : List Call) (s : State) (links : List KeptLink)
+pub all_links-append : (calls more : List Call) (s : State) (links : Table)
     → all_links (calls ++ more) s links ≡ all_links more (after_all calls s) (all_links calls s links)
 all_links-append [] more s links = refl
 all_links-append (call ∷ calls) more s links = all_links-append calls more (after call s) (links_by call (after call s) links)

@@ -21,7 +21,7 @@ pub struct Terminal {
 }
 
 impl Terminal {
-    ghost use Rattle.screen_pieces.specs.Terminal.{screen_of, display_of, links_of, StandsAfter, Feeds, Begins, IsNew, IsCopy};
+    ghost use Rattle.screen_pieces.specs.Terminal.{screen_of, display_of, table_of, StandsAfter, Feeds, Begins, IsNew, IsCopy};
 
     /// A blank screen of so many columns and rows, at the beginning of a stream. `Err` means that memory is
     /// wanting.
@@ -112,7 +112,7 @@ impl Terminal {
 
     /// The links of its cells, of which it keeps the last.
     pub fn links(&self) -> &LinkTable
-        ensures { result.now ≡ links_of self.now }
+        ensures { result.now ≡ table_of self.now }
     {
         &self.watched.links
     }

@@ -9,6 +9,7 @@ use Rattle.ansi_html.proofs.WholeLemmas.{says_link}
 use Rattle.ansi_html.proofs.ColorLemmas.{AreReadable-css}
 use Rattle.screen_html.specs.Shown.{left_html, ending_html}
 use Rattle.screen_html.specs.Writer.{output_of, standing_of, row_html, after_row, after_command, closing_html}
+use Rattle.screen_html.proofs.PaidBoundLemmas.{length-paid}
 use Rattle.screen_html.proofs.ShownLemmas.{left-new, ending-new}
 use Rattle.screen_html.proofs.WholeLemmas.{links-shown-html, read-shown, text-shown, drawn-shown, IsFragment-shown, IsUtf8-shown, length-shown}
 use Rattle.screen_html.proofs.convert_shown.Goals as goal
@@ -64,4 +65,7 @@ pub returns-clause-utf8 : goal.returns-clause-utf8
 returns-clause-utf8 g c = IsUtf8-shown c.args.styling
 
 pub returns-clause-bound : goal.returns-clause-bound
-returns-clause-bound g c = length-shown c.args.styling c.args.screen
+returns-clause-bound g c = length-paid c.args.styling c.args.screen
+
+pub returns-clause-text_bound : goal.returns-clause-text_bound
+returns-clause-text_bound g c = length-shown c.args.styling c.args.screen

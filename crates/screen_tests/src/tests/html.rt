@@ -3,7 +3,7 @@ use super::{Memory, Ran, assert_written, memory};
 use ansi_html::{Scheme, Styling};
 use ansi_screen::Scrollable;
 use anstyle_parse::io::{Fault, FromRead, FromWrite, write_calls_by};
-use screen_html::laws::{blocks, last_links, plain_text};
+use screen_html::laws::{blocks, last_links, paid_links, plain_text};
 use screen_html::{BlockRows, HtmlRows, LinkMemory, convert_shown};
 use screen_text::{ShownWriter, WriteRows};
 use std::alloc::{AllocError, Global};
@@ -82,5 +82,6 @@ fn in_blocks(rt: HostRuntime) -> Result<(), Fail> {
 fn laws(_rt: HostRuntime) {
     blocks();
     last_links();
+    paid_links();
     plain_text();
 }

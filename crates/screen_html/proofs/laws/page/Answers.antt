@@ -1,4 +1,5 @@
 -- As of all that a screen showed.
+use Rattle.screen_html.proofs.PaidBoundLemmas.{length-page_paid}
 use Rattle.screen_html.proofs.WholeLemmas.{read-page, text-page, links-page, length-page, drawn-page, IsFragment-page, IsUtf8-page, whole-page}
 use Rattle.screen_html.proofs.laws.page.Goals as goal
 
@@ -12,7 +13,10 @@ pub returns-clause-links : goal.returns-clause-links
 returns-clause-links c = links-page
 
 pub returns-clause-bound : goal.returns-clause-bound
-returns-clause-bound c = length-page
+returns-clause-bound c = length-page_paid
+
+pub returns-clause-text_bound : goal.returns-clause-text_bound
+returns-clause-text_bound c = length-page
 
 pub returns-clause-lines : goal.returns-clause-lines
 returns-clause-lines c = drawn-page

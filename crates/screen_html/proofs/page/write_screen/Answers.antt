@@ -1,9 +1,9 @@
 -- The last line is ended, and the last element.
-use Rattle.std.proofs.Common.{◌≡◌, Bool, false, ap, ◌∙◌, subst}
+use Rattle.std.proofs.Common.{◌≡◌, [], Bool, false, ap, ◌∙◌, subst}
 use Rattle.ansi_html.specs.Styled.{WritesStyled}
 use Rattle.ansi_screen.specs.Text.{first_rows, printed_rows}
 use Rattle.screen_text.specs.Lines.{open_after}
-use Rattle.screen_html.specs.Shown.{rows_styled, closing_styled}
+use Rattle.screen_html.specs.Shown.{linked, rows_styled, closing_styled}
 use Rattle.screen_html.proofs.PageLemmas.{adds-page}
 use Rattle.screen_html.proofs.RowLemmas.{closing-open, closing-closed}
 use Rattle.screen_html.proofs.page.write_screen.Goals as goal
@@ -19,8 +19,8 @@ returns g c =
     let on : Bool = c.put_rows.result in
     let there : open_after false (first_rows c.used_rows-count.result d) ≡ open_after false (printed_rows d) =
     ap (λ n. open_after false (first_rows n d)) c.used_rows-count.ensures.used in
-    let rows : WritesStyled g.W.Sink a (rows_styled links (printed_rows d)) b =
-    subst (λ n. WritesStyled g.W.Sink a (rows_styled links (first_rows n d)) b) c.used_rows-count.ensures.used c.put_rows.ensures.rows in
+    let rows : WritesStyled g.W.Sink a (rows_styled (linked [] links) (printed_rows d)) b =
+    subst (λ n. WritesStyled g.W.Sink a (rows_styled (linked [] links) (first_rows n d)) b) c.used_rows-count.ensures.used c.put_rows.ensures.rows in
     let closed : WritesStyled g.W.Sink b (closing_styled on) last = elim c.if-put_rows.branch [
       | then-put_rows w ↦ closing-open g.W.Sink on b w.put_line_feed.new.writer last w.if-put_rows.true w.writer-is w.put_line_feed.ensures
       | else-put_rows w ↦ closing-closed g.W.Sink on b last w.if-put_rows.false w.writer-is

@@ -3,7 +3,7 @@ use Rattle.std.proofs.Common.{◌≡◌, ◌-◌, List, [], ◌++◌, length, ma
 use Rattle.std.specs.Prelude.{replicate}
 use Rattle.std.proofs.lemmas.List.{length-map}
 use Rattle.screen_html.specs.declared.table.Place.{Place}
-use Rattle.screen_html.specs.Links.{Kept, kept, most_kept}
+use Rattle.screen_html.specs.Links.{Kept, kept, table, most_kept}
 use Rattle.screen_html.specs.Places.{kept_in, all_kept}
 use Rattle.screen_html.proofs.table.LinkTable.copy.Goals as goal
 
@@ -13,4 +13,6 @@ all_kept-same places others same =
     (sym (length-map places kept_in) ∙ ap length same ∙ length-map others kept_in)
 
 pub returns : goal.returns
-returns c = all_kept-same _ _ (c.put_copies.ensures.kept ∙ ap (map kept_in) c.as_slice.ensures.value) ∙ c.self.view_is
+returns c =
+    ap (λ places. table places c.self.inside.spare) (all_kept-same _ _ (c.put_copies.ensures.kept ∙ ap (map kept_in) c.as_slice.ensures.value))
+    ∙ c.self.view_is

@@ -4,9 +4,10 @@ use Rattle.std.specs.Prelude.{◌==◌, ◌&&◌, not, if◌then◌else◌, repl
 use Rattle.std.proofs.lemmas.Bool.{ne_eqb}
 use Rattle.std.proofs.lemmas.List.{map-set, length-map, length-set, set-append_left, with_items_is}
 use Rattle.std.proofs.Common.{◌<◌, arith}
+use Rattle.ansi_html.specs.Affordable.{link_cost}
 use Rattle.ansi_html.specs.Links.{is_link_command, link_of}
 use Rattle.screen_html.specs.declared.table.Place.{Place}
-use Rattle.screen_html.specs.Links.{Kept, kept, links_after}
+use Rattle.screen_html.specs.Links.{Kept, kept, Table, table, links_after, credited, spare_after}
 use Rattle.screen_html.specs.Places.{kept_in, all_kept}
 use Rattle.screen_html.proofs.table.LinkTable.take_command.Goals as goal
 
@@ -19,7 +20,7 @@ all_kept-set places at place there =
     ∙ sym (set-append_left (map kept_in places) rest at (kept_in place) (omega (arith, length-map places kept_in, there)))
 
 pub returns-then-number-ne0 : goal.returns-then-number-ne0
-unfolding links_after
+unfolding links_after spare_after
 returns-then-number-ne0 c =
     let parts : List (List ℕ) = map (λ (part : Bor (List ℕ)). part.now) c.args.parts.now in
     let number = c.args.number in
@@ -28,11 +29,17 @@ returns-then-number-ne0 c =
     let places : List Place = c.as_mut_slice.result.now in
     let reached : length places ≡ length c.reach.new.places.items = ap length c.as_mut_slice.ensures.value in
     let there : number % 1024 < length places = omega (arith, c.reach.ensures.there, reached) in
-    let old : all_kept places ≡ c.args.self.now =
-    ap all_kept c.as_mut_slice.ensures.value ∙ (c.reach.ensures.kept ∙ c.self.view_is) in
+    let before : List Kept = c.args.self.now.places in
+    let old : all_kept places ≡ before =
+    ap all_kept c.as_mut_slice.ensures.value ∙ (c.reach.ensures.kept ∙ ap (λ (it : Table). it.places) c.self.view_is) in
     let place : Place = record { number = number; link = c.select.new.self } in
     let written = set places (number % 1024) place in
-    ap all_kept (with_items_is c.reach.new.places written (length-set places (number % 1024) place ∙ c.as_mut_slice.ensures.len))
+    let kept_so = ap all_kept (with_items_is c.reach.new.places written (length-set places (number % 1024) place ∙ c.as_mut_slice.ensures.len))
     ∙ (all_kept-set places (number % 1024) place there
     ∙ (ap₂ (λ (links : List Kept) link. set links (number % 1024) (kept number link)) old c.select.ensures
-    ∙ sym (ap₂ (λ (a b : Bool). if a && not b then set c.args.self.now (number % 1024) (kept number (link_of parts)) else c.args.self.now) is some)))
+    ∙ sym (ap₂ (λ (a b : Bool). if a && not b then set before (number % 1024) (kept number (link_of parts)) else before) is some))) in
+    let spare : ℕ = c.args.self.now.spare in
+    ap₂ table kept_so
+    (c.credited_link-self-inside.ensures
+    ∙ ap₂ (λ (link : List ℕ) (n : ℕ). credited (link_cost link) n) (c.uri.ensures ∙ c.select.ensures) (ap (λ (it : Table). it.spare) c.self.view_is)
+    ∙ sym (ap₂ (λ (a b : Bool). if a && not b then credited (link_cost (link_of parts)) spare else spare) is some))

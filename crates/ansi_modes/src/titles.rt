@@ -109,6 +109,18 @@ impl SavedTitles {
         }
     }
 
+    /// Others that are the same.
+    pub(crate) fn copy(&self) -> SavedTitles
+        ensures { result ≡ self.now }
+    {
+        let mut stack = ArrayVec::new();
+        let saved = self.stack.as_slice();
+        for titles in saved {
+            stack.push(titles.copy());
+        }
+        SavedTitles { stack }
+    }
+
     /// How many pairs there are.
     pub fn len(&self) -> usize
         ensures count { result ≡ length self.now }

@@ -2,6 +2,7 @@
 ghost use Rattle.std.specs.Prelude.{◌≡◌, [], ◌∷◌, map};
 ghost use Rattle.anstyle_parse.specs.Views.Params.{groups_shown};
 ghost use Rattle.ansi_modes.specs.Keys.{flags_of, with_flags, pushed_flags, popped_flags};
+ghost use Rattle.ansi_modes.specs.Text.{text_of};
 ghost use Rattle.ansi_modes.specs.Changes.{no_changes, all_changes};
 ghost use Rattle.ansi_modes.specs.Asking.{may_ask};
 ghost use Rattle.ansi_modes.specs.Asked.{nothing_asked, rung, renewed, softly_reset, with_number, with_numbers, with_keypad, in_shape, with_other_keys, with_stack, titles_back, stacked, controlled, sequenced, escaped, titled, in_folder, notified, number_in, colored, commanded_by, commanded, flags_in_force};
@@ -349,19 +350,18 @@ impl Asked {
     }
 
     /// OSC 0, 1 and 2
-    fn set_titles(&mut self, kind: u16, text: Text)
-        ensures { self.new ≡ titled kind text self.old }
+    fn set_titles(&mut self, kind: u16, parts: &[&[u8]])
+        ensures { self.new ≡ titled kind (text_of (map (λ part. part.now) parts.now)) self.old }
     {
-        let titles = Titles::both(text);
-        self.titles.choose(kind, &titles);
+        self.titles.read(kind, parts);
         self.changes.note_titles(kind);
     }
 
     /// OSC 7
-    fn set_folder(&mut self, text: Text)
-        ensures { self.new ≡ in_folder text self.old }
+    fn set_folder(&mut self, parts: &[&[u8]])
+        ensures { self.new ≡ in_folder (text_of (map (λ part. part.now) parts.now)) self.old }
     {
-        self.folder = text;
+        self.folder.read(parts);
         self.changes.folder = true;
     }
 
@@ -412,8 +412,8 @@ impl Asked {
         ensures { self.new ≡ commanded_by number (map (λ part. part.now) parts.now) self.old }
     {
         match number {
-            Some(kind @ 0..=2) => self.set_titles(kind, Text::of(parts)),
-            Some(7) => self.set_folder(Text::of(parts)),
+            Some(kind @ 0..=2) => self.set_titles(kind, parts),
+            Some(7) => self.set_folder(parts),
             Some(9) => self.notify(parts),
             Some(number) => self.color(number, parts),
             None => {}

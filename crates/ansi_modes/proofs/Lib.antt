@@ -1,3 +1,4 @@
 pub mod TextLemmas
 pub mod AskingLemmas
 pub mod CallLemmas
+pub mod ToldLemmas

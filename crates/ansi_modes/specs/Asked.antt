@@ -2,7 +2,8 @@
 --
 -- Sources: xterm's ctlseqs, "Controls beginning with ESC", "Functions using CSI" and "Operating System Commands"; kitty's
 -- page (specs/Keys); VTE's vte.sh and Apple's Terminal for the folder (OSC 7). What RIS and DECSTR reset: xterm 379, asked
--- by DECRQM, DECRQSS and XTQMODKEYS after them; kitty's page and the gist on 2026 say of neither.
+-- by DECRQM, DECRQSS and XTQMODKEYS after them, and of DECBKM its charproc.c, ReallyReset; kitty's page and the gist on
+-- 2026 say of neither.
 use Rattle.std.specs.Prelude.{ℕ, suc, min, Bool, true, false, ◌&&◌, not, ◌==◌, nat_le, List, [], ◌∷◌, length, Option, None, Some, if◌then◌else◌}
 use Rattle.std.specs.Map.{lookup}
 use Rattle.anstyle_parse.specs.Stream.Call.{Call, execute, osc_dispatch, csi_dispatch, esc_dispatch}
@@ -19,7 +20,7 @@ use Rattle.ansi_modes.specs.Modes.{no_modes, field_of, with_switch, with_field}
 use Rattle.ansi_modes.specs.Cursor.{shape_of}
 use Rattle.ansi_modes.specs.Keys.{other_keys, flags_of, with_flags, pushed_flags, popped_flags}
 use Rattle.ansi_modes.specs.Text.{text_of}
-use Rattle.ansi_modes.specs.Titles.{no_titles, chosen, saving, unsaved, restored}
+use Rattle.ansi_modes.specs.Titles.{no_titles, both_titles, chosen, saving, unsaved, restored}
 use Rattle.ansi_modes.specs.Progress.{no_progress, state_by, in_state}
 use Rattle.ansi_modes.specs.declared.colors.Rgb.{Rgb}
 use Rattle.ansi_modes.specs.declared.colors.Colors.{Colors}
@@ -176,7 +177,7 @@ escaped final a =
 -- OSC 0, 1, 2: both titles, that of the icon, that of the window
 abbrev pub titled : (kind : ℕ) → List ℕ → Asked → Asked
 titled kind text a = record a {
-  titles = chosen kind (record { window = text; icon = text }) a.titles;
+  titles = chosen kind (both_titles text) a.titles;
   changes = noted_titles kind a.changes;
 }
 

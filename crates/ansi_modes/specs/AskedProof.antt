@@ -6,7 +6,7 @@ use Rattle.anstyle_parse.specs.Stream.Texts.{FollowsCalls, text_calls, layout_ca
 use Rattle.ansi_modes.specs.declared.asked.Asked.{Asked}
 use Rattle.ansi_modes.specs.Asked.{asked_after, asked_after_all}
 
-after_all-append : (first second : List Call) (a : Asked) → asked_after_all (first ++ second) a ≡ asked_after_all second (asked_after_all first a)
+pub after_all-append : (first second : List Call) (a : Asked) → asked_after_all (first ++ second) a ≡ asked_after_all second (asked_after_all first a)
 after_all-append [] second a = refl
 after_all-append (call ∷ calls) second a = after_all-append calls second (asked_after call a)
 

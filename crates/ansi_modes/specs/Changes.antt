@@ -1,7 +1,7 @@
 -- What was set since it was last asked. It is told too of what was set to what it was.
 use Rattle.std.specs.Prelude.{ℕ, ◌+◌, Bool, true, false, if◌then◌else◌}
 use Rattle.ansi_modes.specs.declared.modes.Switch.{Switch}
-use Rattle.ansi_modes.specs.declared.modes.Switch.TheVariants.{CursorKeys, Reverse, Blink, Keypad, Focus, AlternateScroll, Alternate, Paste, Synchronized}
+use Rattle.ansi_modes.specs.declared.modes.Switch.TheVariants.{CursorKeys, Reverse, Blink, Keypad, Backspace, Focus, AlternateScroll, Alternate, Paste, Synchronized}
 use Rattle.ansi_modes.specs.declared.modes.Field.{Field}
 use Rattle.ansi_modes.specs.declared.modes.Field.TheVariants.{Switches, Tracks, Encodes, Declined}
 use Rattle.ansi_modes.specs.declared.changes.Changes.{Changes}
@@ -28,6 +28,7 @@ no_changes = record {
 unfoldable pub noted_switch : Switch → Changes → Changes
 noted_switch CursorKeys c = record c { keys = true }
 noted_switch Keypad c = record c { keys = true }
+noted_switch Backspace c = record c { keys = true }
 noted_switch Reverse c = record c { reverse = true }
 noted_switch Blink c = record c { cursor = true }
 noted_switch Focus c = record c { focus = true }
@@ -62,6 +63,24 @@ noted_reset c = record c {
   reverse = true;
   cursor = true;
   progress = true;
+  colors = true;
+}
+
+-- all of them
+abbrev pub all_changes : Changes
+all_changes = record {
+  keys = true;
+  mouse = true;
+  focus = true;
+  paste = true;
+  synchronized = true;
+  reverse = true;
+  cursor = true;
+  window = true;
+  icon = true;
+  folder = true;
+  progress = true;
+  bells = true;
   colors = true;
 }
 

@@ -4,10 +4,15 @@ use Rattle.anstyle_parse.specs.Stream.Call.{Call, csi_dispatch, esc_dispatch}
 use Rattle.anstyle_parse.specs.Stream.Calls.{AreCalls}
 use Rattle.ansi_modes.specs.declared.asked.Asked.{Asked}
 use Rattle.ansi_modes.specs.Asked.{asked_after_all}
+use Rattle.ansi_modes.specs.Changes.{no_changes}
 
 -- from what was asked for before, bytes lead by their calls to what is asked for then
 abbrev pub Asks : Asked → List ℕ → Asked → Type 0
 Asks old bytes new = (calls : List Call) × AreCalls bytes calls × (new ≡ asked_after_all calls old)
+
+-- the same, of which nothing is told
+abbrev pub untold : Asked → Asked
+untold a = record a { changes = no_changes }
 
 -- RIS, ESC c
 abbrev pub reset : Call

@@ -1,11 +1,11 @@
 -- Private modes: one table from a number to what it says, by which a mode is set, reset and reported.
 --
 -- Sources: xterm's ctlseqs, "DEC Private Mode Set (DECSET)" and "Mouse Tracking"; the VT510 manual, DECCKM, DECNKM,
--- DECSCNM; for 2026 Christian Parpart, "Synchronized Output" (the gist christianparpart/d8a62cc1ab659194337d73e399004036).
+-- DECBKM, DECSCNM; for 2026 Christian Parpart, "Synchronized Output" (the gist christianparpart/d8a62cc1ab659194337d73e399004036).
 use Rattle.std.specs.Prelude.{ℕ, Bool, true, false, Option, None, Some, ◌==◌, List, [], ◌∷◌, if◌then◌else◌}
 use Rattle.std.specs.Map.{lookup}
 use Rattle.ansi_modes.specs.declared.modes.Switch.{Switch}
-use Rattle.ansi_modes.specs.declared.modes.Switch.TheVariants.{CursorKeys, Reverse, Blink, Keypad, Focus, AlternateScroll, Alternate, Paste, Synchronized}
+use Rattle.ansi_modes.specs.declared.modes.Switch.TheVariants.{CursorKeys, Reverse, Blink, Keypad, Backspace, Focus, AlternateScroll, Alternate, Paste, Synchronized}
 use Rattle.ansi_modes.specs.declared.modes.Tracking.{Tracking}
 use Rattle.ansi_modes.specs.declared.modes.Tracking.TheVariants.{Presses, Buttons, Drags, Motion}
 use Rattle.ansi_modes.specs.declared.modes.Encoding.{Encoding}
@@ -16,8 +16,9 @@ use Rattle.ansi_modes.specs.declared.modes.Modes.{Modes}
 
 abbrev pub fields : List (ℕ × Field)
 fields =
-    -- DECCKM, DECSCNM, blinking of the cursor, DECNKM
+    -- DECCKM, DECSCNM, blinking of the cursor, DECNKM, DECBKM
     (1, Switches CursorKeys) ∷ (5, Switches Reverse) ∷ (12, Switches Blink) ∷ (66, Switches Keypad) ∷
+    (67, Switches Backspace) ∷
     -- focus, the wheel on the alternate screen, that screen, bracketed paste, synchronized output
     (1004, Switches Focus) ∷ (1007, Switches AlternateScroll) ∷ (1049, Switches Alternate) ∷
     (2004, Switches Paste) ∷ (2026, Switches Synchronized) ∷
@@ -35,6 +36,7 @@ abbrev pub no_modes : Modes
 no_modes = record {
   cursor_keys = false;
   keypad = false;
+  backspace = false;
   reverse = false;
   blink = false;
   focus = false;
@@ -49,6 +51,7 @@ no_modes = record {
 unfoldable pub with_switch : Switch → Bool → Modes → Modes
 with_switch CursorKeys on m = record m { cursor_keys = on }
 with_switch Keypad on m = record m { keypad = on }
+with_switch Backspace on m = record m { backspace = on }
 with_switch Reverse on m = record m { reverse = on }
 with_switch Blink on m = record m { blink = on }
 with_switch Focus on m = record m { focus = on }
@@ -85,6 +88,7 @@ is_tracking tracking other = false
 unfoldable pub has_switch : Switch → Modes → Bool
 has_switch CursorKeys m = m.cursor_keys
 has_switch Keypad m = m.keypad
+has_switch Backspace m = m.backspace
 has_switch Reverse m = m.reverse
 has_switch Blink m = m.blink
 has_switch Focus m = m.focus

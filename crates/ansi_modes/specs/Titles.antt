@@ -10,6 +10,10 @@ use Rattle.ansi_modes.specs.declared.titles.Titles.{Titles}
 abbrev pub no_titles : Titles
 no_titles = record { window = []; icon = [] }
 
+-- both are this one
+abbrev pub both_titles : List ℕ → Titles
+both_titles text = record { window = text; icon = text }
+
 abbrev pub max_saved : ℕ
 max_saved = 10
 

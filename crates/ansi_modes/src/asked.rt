@@ -1,8 +1,9 @@
 //! What a stream has asked for, as a performer.
-ghost use Rattle.std.specs.Prelude.{◌≡◌, map};
+ghost use Rattle.std.specs.Prelude.{◌≡◌, [], ◌∷◌, map};
 ghost use Rattle.anstyle_parse.specs.Views.Params.{groups_shown};
 ghost use Rattle.ansi_modes.specs.Keys.{flags_of, with_flags, pushed_flags, popped_flags};
-ghost use Rattle.ansi_modes.specs.Changes.{no_changes};
+ghost use Rattle.ansi_modes.specs.Text.{text_of};
+ghost use Rattle.ansi_modes.specs.Changes.{no_changes, all_changes};
 ghost use Rattle.ansi_modes.specs.Asking.{may_ask};
 ghost use Rattle.ansi_modes.specs.Asked.{nothing_asked, rung, renewed, softly_reset, with_number, with_numbers, with_keypad, in_shape, with_other_keys, with_stack, titles_back, stacked, controlled, sequenced, escaped, titled, in_folder, notified, number_in, colored, commanded_by, commanded, flags_in_force};
 
@@ -75,6 +76,34 @@ impl Asked {
         }
     }
 
+    /// Another one that is the same.
+    pub fn copy(&self) -> Asked
+        ensures { result ≡ self.now }
+    {
+        Asked {
+            modes: self.modes,
+            shape: self.shape,
+            other_keys: self.other_keys,
+            main_flags: self.main_flags.copy(),
+            alternate_flags: self.alternate_flags.copy(),
+            titles: self.titles.copy(),
+            saved_titles: self.saved_titles.copy(),
+            folder: self.folder.copy(),
+            progress: self.progress,
+            colors: self.colors.copy(),
+            bells: self.bells,
+            changes: self.changes,
+        }
+    }
+
+    /// Nothing is asked for any more, and all counts as set.
+    pub fn restart(&mut self)
+        ensures { self.new ≡ record nothing_asked { changes = all_changes } }
+    {
+        *self = Asked::new();
+        self.changes = Changes::all();
+    }
+
     /// The flags of keys, by kitty's protocol, of the screen that shows.
     pub fn key_flags(&self) -> u16
         ensures { result ≡ flags_in_force self.now }
@@ -144,12 +173,30 @@ impl Asked {
         }
     }
 
-    /// DECSET, DECRST
-    fn set_numbers(&mut self, on: bool, params: &Params)
+    fn set_each(&mut self, on: bool, numbers: &[u16])
+        ensures { self.new ≡ with_numbers on (map (λ number. number ∷ []) numbers.now) self.old }
+    {
+        for number in numbers {
+            self.set_number(on, *number);
+        }
+    }
+
+    #[inline(never)]
+    fn set_groups(&mut self, on: bool, params: &Params)
         ensures { self.new ≡ with_numbers on (groups_shown params.now) self.old }
     {
         for group in params {
             self.set_number(on, first_field(group));
+        }
+    }
+
+    /// DECSET, DECRST
+    fn set_numbers(&mut self, on: bool, params: &Params)
+        ensures { self.new ≡ with_numbers on (groups_shown params.now) self.old }
+    {
+        match params.lone_fields() {
+            Some((numbers, count)) => self.set_each(on, &numbers[..count]),
+            None => self.set_groups(on, params),
         }
     }
 
@@ -248,17 +295,22 @@ impl Asked {
     fn control(&mut self, function: Function, params: &Params)
         ensures { self.new ≡ controlled function (groups_shown params.now) self.old }
     {
-        let (first, second) = two_fields(params);
         match function {
             Function::SetModes => self.set_numbers(true, params),
             Function::ResetModes => self.set_numbers(false, params),
             Function::SoftReset => self.soft_reset(),
-            Function::SetShape => self.set_shape(Shape::of(first)),
-            Function::ModifyOtherKeys => self.modify_keys(first, second),
-            Function::DropOtherKeys => self.modify_keys(first, 0),
-            Function::SetFlags => self.set_flags(second, first),
-            Function::PushFlags => self.push_flags(first),
-            Function::PopFlags => self.pop_flags(first),
+            Function::SetShape => self.set_shape(Shape::of(two_fields(params).0)),
+            Function::ModifyOtherKeys => {
+                let (resource, value) = two_fields(params);
+                self.modify_keys(resource, value);
+            }
+            Function::DropOtherKeys => self.modify_keys(two_fields(params).0, 0),
+            Function::SetFlags => {
+                let (flags, how) = two_fields(params);
+                self.set_flags(how, flags);
+            }
+            Function::PushFlags => self.push_flags(two_fields(params).0),
+            Function::PopFlags => self.pop_flags(two_fields(params).0),
         }
     }
 
@@ -298,19 +350,18 @@ impl Asked {
     }
 
     /// OSC 0, 1 and 2
-    fn set_titles(&mut self, kind: u16, text: Text)
-        ensures { self.new ≡ titled kind text self.old }
+    fn set_titles(&mut self, kind: u16, parts: &[&[u8]])
+        ensures { self.new ≡ titled kind (text_of (map (λ part. part.now) parts.now)) self.old }
     {
-        let titles = Titles::both(text);
-        self.titles.choose(kind, &titles);
+        self.titles.read(kind, parts);
         self.changes.note_titles(kind);
     }
 
     /// OSC 7
-    fn set_folder(&mut self, text: Text)
-        ensures { self.new ≡ in_folder text self.old }
+    fn set_folder(&mut self, parts: &[&[u8]])
+        ensures { self.new ≡ in_folder (text_of (map (λ part. part.now) parts.now)) self.old }
     {
-        self.folder = text;
+        self.folder.read(parts);
         self.changes.folder = true;
     }
 
@@ -361,8 +412,8 @@ impl Asked {
         ensures { self.new ≡ commanded_by number (map (λ part. part.now) parts.now) self.old }
     {
         match number {
-            Some(kind @ 0..=2) => self.set_titles(kind, Text::of(parts)),
-            Some(7) => self.set_folder(Text::of(parts)),
+            Some(kind @ 0..=2) => self.set_titles(kind, parts),
+            Some(7) => self.set_folder(parts),
             Some(9) => self.notify(parts),
             Some(number) => self.color(number, parts),
             None => {}

@@ -1,13 +1,13 @@
 //! What was set since it was last asked.
 ghost use Rattle.std.specs.Prelude.{◌≡◌, ◌≤◌};
-ghost use Rattle.ansi_modes.specs.Changes.{no_changes, bit, bits_of, noted_switch, noted_field, noted_titles, noted_soft_reset, noted_reset};
+ghost use Rattle.ansi_modes.specs.Changes.{no_changes, all_changes, bit, bits_of, noted_switch, noted_field, noted_titles, noted_soft_reset, noted_reset};
 
 use crate::modes::{Field, Switch};
 
 /// What was set since it was last asked; what was set to what it was is told too.
 #[derive(Debug, Clone, Copy, PartialEq, Eq)]
 pub struct Changes {
-    /// DECCKM, DECNKM, modifyOtherKeys, the flags of keys, or the screen that these are of.
+    /// DECCKM, DECNKM, DECBKM, modifyOtherKeys, the flags of keys, or the screen that these are of.
     pub keys: bool,
     /// Which events of the mouse are told, and how; what the wheel does.
     pub mouse: bool,
@@ -57,6 +57,27 @@ impl Changes {
         }
     }
 
+    /// All was.
+    pub(crate) fn all() -> Changes
+        ensures { result ≡ all_changes }
+    {
+        Changes {
+            keys: true,
+            mouse: true,
+            focus: true,
+            paste: true,
+            synchronized: true,
+            reverse: true,
+            cursor: true,
+            window: true,
+            icon: true,
+            folder: true,
+            progress: true,
+            bells: true,
+            colors: true,
+        }
+    }
+
     /// The same as a word of bits: that of the first field is 1, that of the second 2, and so on.
     pub fn bits(&self) -> u16
         ensures { result ≡ bits_of self.now }
@@ -81,7 +102,9 @@ impl Changes {
         ensures { self.new ≡ noted_switch switch self.old }
     {
         match switch {
-            Switch::CursorKeys | Switch::Keypad | Switch::Alternate => self.keys = true,
+            Switch::CursorKeys | Switch::Keypad | Switch::Backspace | Switch::Alternate => {
+                self.keys = true
+            }
             Switch::Reverse => self.reverse = true,
             Switch::Blink => self.cursor = true,
             Switch::Focus => self.focus = true,

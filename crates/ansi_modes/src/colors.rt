@@ -212,6 +212,15 @@ impl Palette {
         }
     }
 
+    /// Another one that is the same.
+    pub(crate) fn copy(&self) -> Palette
+        ensures { result ≡ self.now }
+    {
+        Palette {
+            entries: self.entries,
+        }
+    }
+
     /// The colour that is asked for a number.
     pub fn get(&self, index: u8) -> Option<Rgb>
         ensures { result ≡ slice_index_or self.now index None }
@@ -342,6 +351,18 @@ impl Colors {
             foreground: None,
             background: None,
             cursor: None,
+        }
+    }
+
+    /// Others that are the same.
+    pub(crate) fn copy(&self) -> Colors
+        ensures { result ≡ self.now }
+    {
+        Colors {
+            palette: self.palette.copy(),
+            foreground: self.foreground,
+            background: self.background,
+            cursor: self.cursor,
         }
     }
 

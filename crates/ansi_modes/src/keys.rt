@@ -57,6 +57,15 @@ impl KeyFlags {
         }
     }
 
+    /// Others that are the same.
+    pub(crate) fn copy(&self) -> KeyFlags
+        ensures { result ≡ self.now }
+    {
+        let mut stack = ArrayVec::new();
+        let _fits = stack.try_extend_from_slice(self.stack.as_slice());
+        KeyFlags { stack }
+    }
+
     /// The flags in force: 1 disambiguates escape codes, 2 tells kinds of events, 4 alternate keys, 8 all keys as escape
     /// codes, 16 the text of a key.
     pub fn in_force(&self) -> u16

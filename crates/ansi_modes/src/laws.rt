@@ -4,7 +4,7 @@ ghost use Rattle.std.specs.List.{flat_map};
 ghost use Rattle.anstyle_parse.specs.Stream.Call.{Call, print};
 ghost use Rattle.ansi_modes.specs.declared.asked.Asked.{Asked as State};
 ghost use Rattle.ansi_modes.specs.Asked.{renewed, softly_reset, asked_after, asked_after_all};
-ghost use Rattle.ansi_modes.specs.Laws.{Asks, IsLeft, reset, soft_reset};
+ghost use Rattle.ansi_modes.specs.Laws.{Asks, IsLeft, reset, soft_reset, untold};
 
 use crate::asked::Asked;
 use crate::colors::Rgb;
@@ -33,6 +33,11 @@ pub fn resets()
     ensures hard { (asked : State) → asked_after reset asked ≡ renewed asked }
     ensures forgets { (a b : State) → IsLeft a b → asked_after reset a ≡ asked_after reset b }
     ensures soft { (asked : State) → asked_after soft_reset asked ≡ softly_reset asked }
+{}
+
+/// What was told of decides nothing else: whatever it was, the same is asked for after a call.
+pub fn telling()
+    ensures { (call : Call) (asked : State) → untold (asked_after call (untold asked)) ≡ untold (asked_after call asked) }
 {}
 
 /// What is printed asks for nothing.

@@ -9,6 +9,8 @@ pub enum Switch {
     CursorKeys,
     /// DECNKM: so is the keypad.
     Keypad,
+    /// DECBKM: Backspace is BS, and not DEL.
+    Backspace,
     /// DECSCNM: light and dark change places on the whole screen.
     Reverse,
     /// The cursor blinks.
@@ -64,6 +66,7 @@ pub enum Field {
 pub struct Modes {
     pub cursor_keys: bool,
     pub keypad: bool,
+    pub backspace: bool,
     pub reverse: bool,
     pub blink: bool,
     pub focus: bool,
@@ -86,6 +89,7 @@ impl Field {
             5 => Some(Field::Switches(Switch::Reverse)),
             12 => Some(Field::Switches(Switch::Blink)),
             66 => Some(Field::Switches(Switch::Keypad)),
+            67 => Some(Field::Switches(Switch::Backspace)),
             1004 => Some(Field::Switches(Switch::Focus)),
             1007 => Some(Field::Switches(Switch::AlternateScroll)),
             1049 => Some(Field::Switches(Switch::Alternate)),
@@ -139,6 +143,7 @@ impl Modes {
         Modes {
             cursor_keys: false,
             keypad: false,
+            backspace: false,
             reverse: false,
             blink: false,
             focus: false,
@@ -158,6 +163,7 @@ impl Modes {
         match switch {
             Switch::CursorKeys => self.cursor_keys = on,
             Switch::Keypad => self.keypad = on,
+            Switch::Backspace => self.backspace = on,
             Switch::Reverse => self.reverse = on,
             Switch::Blink => self.blink = on,
             Switch::Focus => self.focus = on,
@@ -193,6 +199,7 @@ impl Modes {
         match switch {
             Switch::CursorKeys => self.cursor_keys,
             Switch::Keypad => self.keypad,
+            Switch::Backspace => self.backspace,
             Switch::Reverse => self.reverse,
             Switch::Blink => self.blink,
             Switch::Focus => self.focus,

@@ -97,16 +97,22 @@ impl Text {
         }
     }
 
-    /// The text of the parts of a command that come after its number.
-    #[tactic(auto, unfolding(crate::specs::Text::text_of))]
-    pub(crate) fn of(parts: &[&[u8]]) -> Text
-        ensures { result ≡ text_of (map (λ part. part.now) parts.now) }
+    /// It has nothing any more.
+    fn clear(&mut self)
+        ensures { self.new ≡ [] }
     {
-        let mut text = Text::new();
+        self.text.clear();
+    }
+
+    /// It becomes the text of the parts of a command that come after its number.
+    #[tactic(auto, unfolding(crate::specs::Text::text_of))]
+    pub(crate) fn read(&mut self, parts: &[&[u8]])
+        ensures { self.new ≡ text_of (map (λ part. part.now) parts.now) }
+    {
+        self.clear();
         if let [part, more @ ..] = parts {
-            text.put_bytes(part);
-            text.put_parts(more);
+            self.put_bytes(part);
+            self.put_parts(more);
         }
-        text
     }
 }

@@ -1,6 +1,7 @@
 //! The titles of a window and of its icon.
-ghost use Rattle.std.specs.Prelude.{◌≡◌, ◌≤◌, [], length};
-ghost use Rattle.ansi_modes.specs.Titles.{no_titles, max_saved, is_of_window, is_of_icon, chosen, last_saved, saving, unsaved};
+ghost use Rattle.std.specs.Prelude.{◌≡◌, ◌≤◌, [], length, map};
+ghost use Rattle.ansi_modes.specs.Text.{text_of};
+ghost use Rattle.ansi_modes.specs.Titles.{no_titles, both_titles, max_saved, is_of_window, is_of_icon, chosen, last_saved, saving, unsaved};
 
 use crate::text::Text;
 use arrayvec::ArrayVec;
@@ -41,17 +42,6 @@ impl Titles {
         }
     }
 
-    /// Both are this one.
-    pub(crate) fn both(text: Text) -> Titles
-        ensures window { result.window ≡ text }
-        ensures icon { result.icon ≡ text }
-    {
-        Titles {
-            icon: text.copy(),
-            window: text,
-        }
-    }
-
     /// Others that are the same.
     pub(crate) fn copy(&self) -> Titles
         ensures { result ≡ self.now }
@@ -59,6 +49,23 @@ impl Titles {
         Titles {
             window: self.window.copy(),
             icon: self.icon.copy(),
+        }
+    }
+
+    /// Those of a kind become the text of the parts of a command.
+    #[tactic(auto, unfolding(crate::specs::Titles::chosen))]
+    pub(crate) fn read(&mut self, kind: u16, parts: &[&[u8]])
+        ensures { self.new ≡ chosen kind (both_titles (text_of (map (λ part. part.now) parts.now))) self.old }
+    {
+        if !is_of_window(kind) {
+            if is_of_icon(kind) {
+                self.icon.read(parts);
+            }
+            return;
+        }
+        self.window.read(parts);
+        if is_of_icon(kind) {
+            self.icon = self.window.copy();
         }
     }
 
@@ -107,6 +114,18 @@ impl SavedTitles {
         SavedTitles {
             stack: ArrayVec::new(),
         }
+    }
+
+    /// Others that are the same.
+    pub(crate) fn copy(&self) -> SavedTitles
+        ensures { result ≡ self.now }
+    {
+        let mut stack = ArrayVec::new();
+        let saved = self.stack.as_slice();
+        for titles in saved {
+            stack.push(titles.copy());
+        }
+        SavedTitles { stack }
     }
 
     /// How many pairs there are.

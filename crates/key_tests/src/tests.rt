@@ -1,4 +1,5 @@
 //! Rows that were worked by hand, from xterm's and kitty's pages and the tests of libvterm and kitty.
+mod asked;
 mod calls;
 mod enhanced;
 mod legacy;

@@ -3,6 +3,8 @@
 -- Source: Kovid Goyal, "Comprehensive keyboard handling in terminals" (sw.kovidgoyal.net/kitty/keyboard-protocol),
 -- "Progressive enhancement".
 use Rattle.std.specs.Prelude.{ℕ, ◌/◌, ◌%◌, Bool, false, ◌||◌, ◌==◌, None}
+use Rattle.ansi_modes.specs.declared.asked.Asked.{Asked}
+use Rattle.ansi_modes.specs.Asked.{flags_in_force}
 use Rattle.terminal_keys.specs.declared.modes.Flags.{Flags}
 use Rattle.terminal_keys.specs.declared.modes.KeyModes.{KeyModes}
 
@@ -34,4 +36,18 @@ nothing_asked = record {
   paste = false;
   tracking = None;
   encoding = None;
+}
+
+-- what a stream asked for, field by field; the flags are those of the screen that shows
+abbrev pub key_modes : Asked → KeyModes
+key_modes asked = record {
+  cursor_keys = asked.modes.cursor_keys;
+  keypad = asked.modes.keypad;
+  backspace = asked.modes.backspace;
+  other_keys = asked.other_keys;
+  flags = flags_of (flags_in_force asked);
+  focus = asked.modes.focus;
+  paste = asked.modes.paste;
+  tracking = asked.modes.tracking;
+  encoding = asked.modes.encoding;
 }

@@ -4,10 +4,10 @@
 -- buttons", "Button-event tracking", "Any-event tracking", "Extended coordinates".
 use Rattle.std.specs.Prelude.{ℕ, ◌+◌, Bool, true, false, ◌&&◌, nat_lt, Option, None, Some, List, [], ◌∷◌, ◌++◌, decimal, if◌then◌else◌}
 use Rattle.terminal_keys.specs.declared.key.Modifiers.{Modifiers}
-use Rattle.terminal_keys.specs.declared.modes.Tracking.{Tracking}
-use Rattle.terminal_keys.specs.declared.modes.Tracking.TheVariants.{Presses, Buttons, Drags, Motion}
-use Rattle.terminal_keys.specs.declared.modes.Encoding.{Encoding}
-use Rattle.terminal_keys.specs.declared.modes.Encoding.TheVariants.{Sgr as InSgr, Urxvt as InUrxvt, Pixels}
+use Rattle.ansi_modes.specs.declared.modes.Tracking.{Tracking}
+use Rattle.ansi_modes.specs.declared.modes.Tracking.TheVariants.{Presses, Buttons, Drags, Motion}
+use Rattle.ansi_modes.specs.declared.modes.Encoding.{Encoding}
+use Rattle.ansi_modes.specs.declared.modes.Encoding.TheVariants.{Sgr as InSgr, Urxvt as InUrxvt, Pixels}
 use Rattle.terminal_keys.specs.declared.modes.KeyModes.{KeyModes}
 use Rattle.terminal_keys.specs.declared.mouse.Button.{Button}
 use Rattle.terminal_keys.specs.declared.mouse.Button.TheVariants.{Left, Middle, Right, Back, Forward}

@@ -11,8 +11,9 @@ mod paste;
 mod tables;
 mod text;
 
+pub use ansi_modes::{Encoding, Tracking};
 pub use key::{Event, Key, Modifiers, Navigation, Pad, Stroke};
-pub use modes::{Encoding, Flags, KeyModes, Tracking};
+pub use modes::{Flags, KeyModes};
 pub use mouse::{Action, Button, Mouse, MouseText, Wheel};
 pub use paste::{focus_text, put_paste};
 pub use text::{KeyText, Sequence};

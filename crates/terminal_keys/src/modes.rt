@@ -1,30 +1,8 @@
 //! What a program asked of the keys, as far as it decides their bytes.
 ghost use Rattle.std.specs.Prelude.{◌≡◌};
-ghost use Rattle.terminal_keys.specs.Modes.{flags_of, is_enhanced, nothing_asked, no_flags};
+ghost use Rattle.terminal_keys.specs.Modes.{flags_of, is_enhanced, nothing_asked, no_flags, key_modes};
 
-/// Which events of the mouse are told.
-#[derive(Debug, Clone, Copy, PartialEq, Eq)]
-pub enum Tracking {
-    /// 9: presses of buttons.
-    Presses,
-    /// 1000: presses and releases, and the wheel.
-    Buttons,
-    /// 1002: motion too, while a button is down.
-    Drags,
-    /// 1003: all motion.
-    Motion,
-}
-
-/// How they are written, other than in three bytes.
-#[derive(Debug, Clone, Copy, PartialEq, Eq)]
-pub enum Encoding {
-    /// 1006
-    Sgr,
-    /// 1015
-    Urxvt,
-    /// 1016
-    Pixels,
-}
+use ansi_modes::{Asked, Encoding, Tracking};
 
 /// The flags of kitty's protocol.
 #[derive(Debug, Clone, Copy, PartialEq, Eq)]
@@ -114,6 +92,23 @@ impl KeyModes {
             paste: false,
             tracking: None,
             encoding: None,
+        }
+    }
+
+    /// What a stream asked for.
+    pub fn of(asked: &Asked) -> KeyModes
+        ensures { result ≡ key_modes asked.now }
+    {
+        KeyModes {
+            cursor_keys: asked.modes.cursor_keys,
+            keypad: asked.modes.keypad,
+            backspace: asked.modes.backspace,
+            other_keys: asked.other_keys,
+            flags: Flags::of(asked.key_flags()),
+            focus: asked.modes.focus,
+            paste: asked.modes.paste,
+            tracking: asked.modes.tracking,
+            encoding: asked.modes.encoding,
         }
     }
 }

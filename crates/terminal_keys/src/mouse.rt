@@ -4,8 +4,9 @@ ghost use Rattle.anstyle_parse.specs.Io.Output.{Adds};
 ghost use Rattle.terminal_keys.specs.Mouse.{button_code, wheel_code, action_code, is_released, held_code, is_mouse_told, packed, mouse_code, mouse_written, mouse_text, numbers_text, urxvt_text, last_byte, sgr_text, mouse_bytes};
 
 use crate::key::{Modifiers, bit};
-use crate::modes::{Encoding, KeyModes, Tracking};
+use crate::modes::KeyModes;
 use crate::text::put_number;
+use ansi_modes::{Encoding, Tracking};
 use anstyle_parse::io::{Output, Sink};
 
 /// A button.

@@ -1,7 +1,7 @@
 //! What a stream asks for.
 use super::{after, assert_same};
 use ansi_modes::fields::{first_field, number_of, two_fields};
-use ansi_modes::laws::{any_pieces, determined, equality, printed, resets};
+use ansi_modes::laws::{any_pieces, determined, equality, printed, resets, telling};
 use ansi_modes::{
     Asked, Both, Changes, Colors, Encoding, Field, KeyFlags, MAX_TEXT, Modes, Palette, Progress,
     ProgressState, Rgb, SavedTitles, Shape, Switch, Text, Titles, Tracking,
@@ -24,6 +24,7 @@ fn switched(switch: Switch) -> Modes {
     match switch {
         Switch::CursorKeys => modes.cursor_keys = true,
         Switch::Keypad => modes.keypad = true,
+        Switch::Backspace => modes.backspace = true,
         Switch::Reverse => modes.reverse = true,
         Switch::Blink => modes.blink = true,
         Switch::Focus => modes.focus = true,
@@ -58,6 +59,7 @@ fn switches(rt: HostRuntime) {
     assert_modes(&rt, b"\x1b[?66h", switched(Switch::Keypad));
     assert_modes(&rt, b"\x1b=", switched(Switch::Keypad));
     assert_modes(&rt, b"\x1b[?66h\x1b>", Modes::none());
+    assert_modes(&rt, b"\x1b[?67h", switched(Switch::Backspace));
     assert_modes(&rt, b"\x1b[?1004h", switched(Switch::Focus));
     assert_modes(&rt, b"\x1b[?1007h", switched(Switch::AlternateScroll));
     assert_modes(&rt, b"\x1b[?1049h", switched(Switch::Alternate));
@@ -91,11 +93,12 @@ fn mouse(rt: HostRuntime) {
 
 /// The modes that RIS and DECSTR may reset, set.
 const ALL: &[u8] =
-    b"\x1b[?1;5;12;66;1003;1004;1006;1007;1049;2004;2026h\x1b[>4;2m\x1b[>5u\x1b[4 q\x1b[?12h";
+    b"\x1b[?1;5;12;66;67;1003;1004;1006;1007;1049;2004;2026h\x1b[>4;2m\x1b[>5u\x1b[4 q\x1b[?12h";
 
 /// What DECSTR leaves of them.
 fn softly_reset() -> Modes {
     Modes {
+        backspace: true,
         reverse: true,
         focus: true,
         alternate_scroll: true,
@@ -541,6 +544,47 @@ fn bells(rt: HostRuntime) {
     assert_same(&rt, &after(b"\x07a\x07\x1b]2;t\x07").bells, &2);
 }
 
+/// The modes, how many titles and flags are kept, the title, the palette's second colour, and what is told.
+fn parts(asked: &mut Asked) -> (Modes, usize, usize, bool, Option<Rgb>, u16) {
+    let saved = asked.saved_titles.len();
+    let flags = asked.main_flags.depth();
+    let titled = asked.titles.icon.as_str() == "b";
+    let color = asked.colors.palette.get(1);
+    (
+        asked.modes,
+        saved,
+        flags,
+        titled,
+        color,
+        asked.take_changes().bits(),
+    )
+}
+
+// A copy has all of it; a new beginning has none, and all counts as set.
+#[test]
+fn copied(rt: HostRuntime) {
+    let bytes =
+        b"\x1b[?67h\x1b[22t\x1b]2;a\x07\x1b[22t\x1b]1;b\x07\x1b[>1u\x1b[>2u\x1b]4;1;#123\x07";
+    let mut asked = after(bytes);
+    let mut copy = asked.copy();
+    let color = Some(Rgb {
+        red: 0x10,
+        green: 0x20,
+        blue: 0x30,
+    });
+    let all = (switched(Switch::Backspace), 2, 2, true, color, 4481);
+    assert_same(&rt, &parts(&mut copy), &all);
+    drop(copy);
+    assert_same(&rt, &parts(&mut asked), &all);
+    asked.restart();
+    assert_same(
+        &rt,
+        &parts(&mut asked),
+        &(Modes::none(), 0, 0, false, None, 8191),
+    );
+    drop(asked);
+}
+
 /// Two get the same.
 fn both(bytes: &[u8]) -> (u32, u16) {
     let mut both = Both {
@@ -562,6 +606,7 @@ fn names(rt: HostRuntime) {
     determined();
     resets();
     printed();
+    telling();
     equality();
     let mut asked = Asked::new();
     any_pieces(&mut asked, &[b"\x1b[?", b"1h"]);

@@ -1,5 +1,5 @@
 -- What is asked for goes on by a piece, and by what is told it stays.
-use Rattle.std.proofs.Common.{◌≡◌, ℕ, List, [], ◌++◌, refl, sym, ap, ◌∙◌, subst}
+use Rattle.std.proofs.Common.{◌≡◌, ℕ, List, ◌++◌, sym, ap, ◌∙◌, subst}
 use Rattle.anstyle_parse.specs.Stream.Call.{Call}
 use Rattle.anstyle_parse.specs.Stream.Calls.{Continues}
 use Rattle.anstyle_parse.specs.Views.Accumulator.{front_of}
@@ -14,7 +14,7 @@ use Rattle.ansi_screen.specs.Laws.{with_shown}
 use Rattle.ansi_screen.specs.Leaving.{unkept}
 use Rattle.screen_pieces.specs.declared.terminal.Terminal.{Terminal}
 use Rattle.screen_pieces.specs.History.{KeepsLeft}
-use Rattle.screen_pieces.specs.Terminal.{screen_of, begun, KeepsLinks, HasAsked, StandsAfter, Tells}
+use Rattle.screen_pieces.specs.Terminal.{KeepsLinks, HasAsked, StandsAfter, Tells}
 
 pub asks-more : (before more : List ℕ) (made : List Call) (old new : Asked) → Continues before more made → new ≡ asked_after_all made old
     → HasAsked before old → HasAsked (before ++ more) new

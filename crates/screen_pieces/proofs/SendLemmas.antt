@@ -16,4 +16,4 @@ watched_send = struct_send (shape watched.the_type) (screen_send, (links_send.th
 pub terminal_send : IsSend terminal.the_row
 terminal_send =
     let of = terminal.the_type in
-    recorded_send _ of.D of.to of.to_one (struct_send (shape of) (search (sendable, parser_send.the_field_send, utf8_send.the_send, utf8_send.the_field_send), (search (sendable, both_send.the_field_send, both_send.the_send, watched_send, asked_send.the_field_send, asked_send.the_send), tt)))
+    recorded_send _ of.D of.to of.to_one (struct_send (shape of) (search (sendable, parser_send.the_field_send, utf8_send.the_send, utf8_send.the_field_send), (search (sendable, both_send.the_field_send, watched_send, asked_send.the_send), tt)))

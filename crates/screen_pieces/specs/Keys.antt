@@ -2,7 +2,7 @@
 --
 -- The numbers of modifiers and events are those of kitty's protocol (sw.kovidgoyal.net/kitty/keyboard-protocol); of buttons
 -- X11's (its protocol, "Pointer buttons", as XTEST and evdev number 8 and 9); of keys this library's own.
-use Rattle.std.specs.Prelude.{ℕ, ◌-◌, ◌/◌, ◌%◌, ◌&&◌, ◌||◌, ◌==◌, nat_le, nat_lt, Bool, List, Option, None, Some, if◌then◌else◌}
+use Rattle.std.specs.Prelude.{ℕ, ◌-◌, ◌/◌, ◌%◌, ◌&&◌, ◌||◌, ◌==◌, nat_le, nat_lt, Option, None, Some, if◌then◌else◌}
 use Rattle.terminal_keys.specs.declared.key.Navigation.{Navigation}
 use Rattle.terminal_keys.specs.declared.key.Navigation.TheVariants.{Up, Down, Right, Left, Home, End, Insert, Delete, PageUp, PageDown}
 use Rattle.terminal_keys.specs.declared.key.Pad.{Pad}

@@ -3,7 +3,8 @@
  *
  * A stream comes in pieces of any size, cut anywhere: the screen after it is the same. No input is refused. Memory is
  * taken by ansi_screen_open, ansi_screen_open_with and ansi_screen_copy (malloc), and given back by ansi_screen_close (free);
- * by ansi_screen_draw, ansi_screen_update and ansi_screen_html while they work; and by no other call. The library has no data
+ * by ansi_screen_draw, ansi_screen_update, ansi_screen_html, ansi_screen_key, ansi_screen_mouse, ansi_screen_paste and
+ * ansi_screen_focus while they work; and by no other call. The library has no data
  * of its own: threads may call it at the same time, each with a screen of its own.
  *
  *     ansi_screen screen = {0};
@@ -20,8 +21,7 @@
  * is to memory of its own that lives as long as the call; it is not null, also where the size beside it is 0; and no two
  * of the pieces of memory overlap, so a call is not given one screen twice. Nothing is kept of a pointer after the call.
  *
- * Not there: changing a screen's size, titles, the bell, the cursor's shape, what a program asks of keys and mouse (as DECCKM,
- * bracketed paste, mouse reports), and answers to the host. ansi_events.h tells of the same bytes what asks for these.
+ * Not there: changing a screen's size, and answers to the host. ansi_events.h tells of the same bytes what asks for these.
  */
 #ifndef ANSI_SCREEN_H
 #define ANSI_SCREEN_H
@@ -109,14 +109,24 @@ typedef struct ansi_cell {
     uint8_t goes_on; /* 1 in the last cell of a row from which autowrap went on to the next: both are one line */
 } ansi_cell;
 
-/* Modes, in 16 bytes: each is 1 where it is on, else 0. */
+/* Modes, in 16 bytes: each is 1 where it is on, else 0; and from `cursor_keys` on what a program asked for. */
 typedef struct ansi_modes {
     uint8_t cursor_shown;     /* DECTCEM */
     uint8_t alternate_screen; /* 1049 */
     uint8_t autowrap;         /* DECAWM */
     uint8_t insert;           /* IRM */
     uint8_t origin;           /* DECOM */
-    uint8_t reserved[11];     /* 0 */
+    uint8_t cursor_keys;      /* DECCKM: the cursor keys are those of an application */
+    uint8_t key_flags;        /* the flags of kitty's keyboard protocol */
+    uint8_t mouse;            /* what is told of the mouse: 1 presses (9), 2 releases too (1000), 3 drags (1002), 4 motion (1003) */
+    uint8_t mouse_encoding;   /* 0 in three bytes, 1 by SGR (1006), 2 as urxvt (1015), 3 in pixels (1016) */
+    uint8_t focus;            /* 1004: the focus is told */
+    uint8_t paste;            /* 2004: what is pasted comes in brackets */
+    uint8_t synchronized;     /* 2026: what is shown changes only where this ends */
+    uint8_t reverse;          /* DECSCNM: light and dark change places */
+    uint8_t cursor_shape;     /* 0 the terminal's own, 1 a block, 2 a line below, 3 a bar (DECSCUSR) */
+    uint8_t cursor_blinks;
+    uint8_t reserved[1];      /* 0 */
 } ansi_modes;
 
 /* What a screen keeps beside what it shows, in 64 bytes: zero bytes are nothing (`= {0}` in C, `= {}` in C++). */
@@ -124,6 +134,99 @@ typedef struct ansi_screen_options {
     size_t history;     /* so many of the last rows that leave it, of about 40 bytes a cell */
     size_t reserved[7]; /* 0 */
 } ansi_screen_options;
+
+/* What can be asked for, by the bits of ansi_screen_asked. */
+enum {
+    ANSI_ASKED_KEYS = 1,
+    ANSI_ASKED_MOUSE = 2,
+    ANSI_ASKED_FOCUS = 4,
+    ANSI_ASKED_PASTE = 8,
+    ANSI_ASKED_SYNCHRONIZED = 16,
+    ANSI_ASKED_REVERSE = 32,
+    ANSI_ASKED_CURSOR = 64, /* its shape, and whether it blinks */
+    ANSI_ASKED_TITLE = 128, /* the window's */
+    ANSI_ASKED_ICON = 256,  /* the title of its icon */
+    ANSI_ASKED_FOLDER = 512,
+    ANSI_ASKED_PROGRESS = 1024,
+    ANSI_ASKED_BELL = 2048,
+    ANSI_ASKED_COLORS = 4096
+};
+
+/* Keys, by `key` of ansi_key. Any other number is no key. */
+enum {
+    ANSI_KEY_CHARACTER = 0, /* one that types a character */
+    ANSI_KEY_ENTER = 1,
+    ANSI_KEY_TAB = 2,
+    ANSI_KEY_BACKSPACE = 3,
+    ANSI_KEY_ESCAPE = 4,
+    ANSI_KEY_UP = 11,
+    ANSI_KEY_DOWN = 12,
+    ANSI_KEY_RIGHT = 13,
+    ANSI_KEY_LEFT = 14,
+    ANSI_KEY_HOME = 15,
+    ANSI_KEY_END = 16,
+    ANSI_KEY_INSERT = 17,
+    ANSI_KEY_DELETE = 18,
+    ANSI_KEY_PAGE_UP = 19,
+    ANSI_KEY_PAGE_DOWN = 20,
+    ANSI_KEY_PAD_0 = 40, /* and the other digits after it */
+    ANSI_KEY_PAD_DECIMAL = 50,
+    ANSI_KEY_PAD_DIVIDE = 51,
+    ANSI_KEY_PAD_MULTIPLY = 52,
+    ANSI_KEY_PAD_SUBTRACT = 53,
+    ANSI_KEY_PAD_ADD = 54,
+    ANSI_KEY_PAD_SEPARATOR = 55,
+    ANSI_KEY_PAD_EQUAL = 56,
+    ANSI_KEY_PAD_ENTER = 57,
+    ANSI_KEY_PAD_BEGIN = 58, /* 5, where Num Lock is off */
+    ANSI_KEY_PAD = 50,       /* is added to one of ANSI_KEY_UP to ANSI_KEY_PAGE_DOWN where it is on the keypad */
+    ANSI_KEY_FUNCTION = 100  /* and the number of a function key, 1 to 24 */
+};
+
+/* What is held beside a key or a button, together. */
+enum {
+    ANSI_HELD_SHIFT = 1,
+    ANSI_HELD_ALT = 2,
+    ANSI_HELD_CONTROL = 4,
+    ANSI_HELD_SUPER = 8,
+    ANSI_HELD_HYPER = 16,
+    ANSI_HELD_META = 32,
+    ANSI_HELD_CAPS_LOCK = 64,
+    ANSI_HELD_NUM_LOCK = 128
+};
+
+/* What happens to a key, and to the mouse. */
+enum {
+    ANSI_EVENT_PRESS = 1,
+    ANSI_EVENT_REPEAT = 2,
+    ANSI_EVENT_RELEASE = 3
+};
+
+enum {
+    ANSI_MOUSE_PRESS = 1,
+    ANSI_MOUSE_RELEASE = 2,
+    ANSI_MOUSE_MOVE = 3
+};
+
+/* A key, in 12 bytes: zero bytes are none. */
+typedef struct ansi_key {
+    uint32_t character; /* what it types without modifiers: `a` also where Shift makes it `A` */
+    uint32_t shifted;   /* what it types with Shift, where that is known; else 0 */
+    uint8_t key;
+    uint8_t modifiers;
+    uint8_t event; /* any other number is a press */
+    uint8_t reserved;
+} ansi_key;
+
+/* What the mouse does, in 12 bytes: zero bytes are nothing. Columns, rows and pixels count from 0. */
+typedef struct ansi_mouse {
+    uint16_t column, row;
+    uint16_t x, y; /* in pixels, where these are asked for */
+    uint8_t action;
+    uint8_t button; /* 1 left, 2 middle, 3 right, 4 wheel up, 5 down, 6 left, 7 right, 8 back, 9 forward; else none */
+    uint8_t modifiers;
+    uint8_t reserved;
+} ansi_mouse;
 
 /* Holds a new screen of so many columns and rows, blank, at the beginning of a stream. What it held is freed. Answers
  * false, and holds none, where that is no size, or where there is no memory. */
@@ -143,7 +246,7 @@ void ansi_screen_close(ansi_screen *screen);
 /* All functions from here on answer false where no screen is held. Then, and wherever else they answer false, the screen
  * is as it was, and nothing is written but where that is said. */
 
-/* Makes the screen a blank one of its size, at the beginning of a stream. */
+/* Makes the screen a blank one of its size, at the beginning of a stream. All that can be asked for counts as set. */
 bool ansi_screen_reset(ansi_screen *screen);
 
 /* Takes the next bytes of the stream, all of them. */
@@ -159,7 +262,7 @@ bool ansi_screen_cursor(ansi_screen *screen, size_t *row, size_t *column);
 /* Writes the style of the character that comes next. */
 bool ansi_screen_style(ansi_screen *screen, ansi_style *style);
 
-/* Writes the modes. */
+/* Writes the modes, and what was asked for. */
 bool ansi_screen_modes(ansi_screen *screen, ansi_modes *modes);
 
 /* Writes a cell, by its row and its column, counted from 0. Answers false outside of the screen. */
@@ -218,9 +321,31 @@ bool ansi_screen_update(ansi_screen *shown, ansi_screen *wanted, unsigned char *
 bool ansi_screen_html(ansi_screen *screen, unsigned char styling, unsigned char *room, size_t size, size_t *written);
 
 /* Answers whether both screens show the same: as many columns and rows, the same cells, the cursor, with the style of what comes
- * next, and modes. What is not told here does not count, as margins, tabs and rows that left. Links and which rows go on do, by the
+ * next, and modes, but for what was asked for. What is not told here does not count, as margins, tabs and rows that left. Links and which rows go on do, by the
  * cells: so a screen that was fed a drawing or an update, which leave them out, is not equal to one that has some. */
 bool ansi_screen_equal(ansi_screen *one, ansi_screen *other);
+
+/* Writes to `bits` what a program asked for since the last such call, and forgets it: what was set to what it was is told too. */
+bool ansi_screen_asked(ansi_screen *screen, uint16_t *bits);
+
+/* The title of the window, as those of text are written. It has no control, and at most 1,024 bytes. */
+#define ANSI_SCREEN_TITLE_ROOM 1024
+bool ansi_screen_title(ansi_screen *screen, unsigned char *room, size_t size, size_t *written);
+
+/* The four that follow write what a program reads of a key, of the mouse, of what is pasted and of the focus, by what it asked
+ * for, as those of drawings do. What it did not ask for is no bytes: they answer true, and `written` is 0. */
+bool ansi_screen_key(ansi_screen *screen, const ansi_key *key, unsigned char *room, size_t size, size_t *written);
+bool ansi_screen_mouse(ansi_screen *screen, const ansi_mouse *mouse, unsigned char *room, size_t size, size_t *written);
+
+/* Controls are left out but TAB, LF and CR. Answers false, and `written` is 0, where the text is no UTF-8. */
+bool ansi_screen_paste(ansi_screen *screen, const unsigned char *text, size_t count,
+                       unsigned char *room, size_t size, size_t *written);
+
+/* The terminal has the focus now; where `gained` is 0, it has it no longer. */
+bool ansi_screen_focus(ansi_screen *screen, unsigned char gained, unsigned char *room, size_t size, size_t *written);
+
+/* The room in which the bytes of a key, of the mouse and of the focus always fit. */
+#define ANSI_SCREEN_KEY_ROOM 64
 
 /* Rows that leave the screen are those that scroll off at its top, where the upper margin is the first row; and where ED 2,
  * ED 0 at its first cell or RIS takes away all of the main screen, its rows up to the last in which something was printed. Not

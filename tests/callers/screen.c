@@ -27,7 +27,11 @@ static_assert(offsetof(ansi_cell, marks) == 4 && offsetof(ansi_cell, link) == 12
 static_assert(offsetof(ansi_cell, mark_count) == 33 && offsetof(ansi_cell, goes_on) == 35, "bytes are last");
 static_assert(sizeof(ansi_modes) == 16, "modes have 16 bytes");
 static_assert(sizeof(ansi_screen_options) == 64, "options have 64 bytes");
-static_assert(offsetof(ansi_modes, reserved) == 5, "of which five are used");
+static_assert(offsetof(ansi_modes, reserved) == 15 && offsetof(ansi_modes, mouse) == 7, "of which one is not used");
+static_assert(sizeof(ansi_key) == 12, "a key has 12 bytes");
+static_assert(offsetof(ansi_key, key) == 8 && offsetof(ansi_key, event) == 10, "of which its numbers are last");
+static_assert(sizeof(ansi_mouse) == 12, "and so has the mouse");
+static_assert(offsetof(ansi_mouse, action) == 8 && offsetof(ansi_mouse, modifiers) == 10, "of which places are first");
 static_assert(ANSI_SCREEN_ROW_ROOM(1 + 1) == 24 && ANSI_SCREEN_TEXT_ROOM(80, 24) == 23064, "rooms are as they are said");
 static_assert(ANSI_SCREEN_TEXT_ROOM(1 + 1, 1 + 1) == 50, "arguments stand in brackets");
 
@@ -59,6 +63,13 @@ static bool (*const history_of)(ansi_screen *, size_t *, size_t *) = ansi_screen
 static bool (*const kept_row)(ansi_screen *, size_t, ansi_cell *, size_t) = ansi_screen_history_row;
 static bool (*const kept_text)(ansi_screen *, size_t, unsigned char *, size_t, size_t *) = ansi_screen_history_text;
 
+static bool (*const asked_of)(ansi_screen *, uint16_t *) = ansi_screen_asked;
+static bool (*const title_of)(ansi_screen *, unsigned char *, size_t, size_t *) = ansi_screen_title;
+static bool (*const key_of)(ansi_screen *, const ansi_key *, unsigned char *, size_t, size_t *) = ansi_screen_key;
+static bool (*const mouse_of)(ansi_screen *, const ansi_mouse *, unsigned char *, size_t, size_t *) = ansi_screen_mouse;
+static bool (*const paste_of)(ansi_screen *, const unsigned char *, size_t, unsigned char *, size_t, size_t *) = ansi_screen_paste;
+static bool (*const focus_of)(ansi_screen *, unsigned char, unsigned char *, size_t, size_t *) = ansi_screen_focus;
+
 enum { ROOM = 4096, GUARD = 0xA5 };
 
 static ansi_screen opened(size_t columns, size_t rows)
@@ -74,17 +85,29 @@ static void feed_text(ansi_screen *screen, const char *text)
     expect(feed(screen, (const unsigned char *)text, strlen(text)), "bytes are taken");
 }
 
-/* What a screen is asked for: all of its text, that of a row or of one that left, the URI of a link, its HTML in a styling. */
-enum asked { TEXT, ROW, KEPT, LINK, HTML };
+/* What a screen is asked for: all of its text, that of a row or of one that left, the URI of a link, its HTML in a styling, its title; and
+ * what a program reads of the cursor key up, with what is held, of the left button of the mouse, of a paste of a number of bytes, and
+ * of the focus. */
+enum asked { TEXT, ROW, KEPT, LINK, HTML, TITLE, UP, LEFT, PASTE, FOCUS };
+
+static const unsigned char PASTED[] = "a\033[201~\tb";
 
 static bool answers(enum asked what, ansi_screen *screen, size_t number, unsigned char *room, size_t size, size_t *written)
 {
+    ansi_key key = {0, 0, ANSI_KEY_UP, 0, ANSI_EVENT_PRESS, 0};
+    ansi_mouse mouse = {4, 2, 0, 0, 0, 1, 0, 0};
+
     switch (what) {
     case TEXT: return text_of(screen, room, size, written);
     case ROW: return row_text(screen, number, room, size, written);
     case KEPT: return kept_text(screen, number, room, size, written);
     case LINK: return link_of(screen, (uint32_t)number, room, size, written);
     case HTML: return html_of(screen, (unsigned char)number, room, size, written);
+    case TITLE: return title_of(screen, room, size, written);
+    case UP: key.modifiers = (uint8_t)number; return key_of(screen, &key, room, size, written);
+    case LEFT: mouse.action = (uint8_t)number; return mouse_of(screen, &mouse, room, size, written);
+    case PASTE: return paste_of(screen, PASTED, number, room, size, written);
+    case FOCUS: return focus_of(screen, (unsigned char)number, room, size, written);
     }
     return false;
 }
@@ -363,7 +386,7 @@ static void modes(void)
     memset(&on, GUARD, sizeof on);
     expect(modes_of(&it, &on), "a screen has modes");
     expect(on.cursor_shown == 1 && on.autowrap == 1, "at first the cursor is shown and autowrap is on");
-    expect(!on.alternate_screen && !on.insert && !on.origin && are(on.reserved, 11, 0), "and nothing else");
+    expect(!on.alternate_screen && !on.insert && !on.origin && are((unsigned char *)&on + 5, 11, 0), "and nothing else");
     feed_text(&it, "\033[?25l");
     expect(modes_of(&it, &on) && !on.cursor_shown && on.autowrap == 1, "?25l hides the cursor");
     feed_text(&it, "\033[?25h\033[?7l");
@@ -379,6 +402,48 @@ static void modes(void)
 }
 
 /* Cut anywhere, a stream leads to the same. */
+/* What was asked for beside the screen, and what a program reads by it: by xterm's ctlseqs. */
+static void asks(void)
+{
+    ansi_screen it = opened(4, 3), none = {0};
+    unsigned char room[ROOM];
+    uint16_t bits = 7;
+    size_t written = 7;
+    ansi_modes on;
+
+    expect(!asked_of(&none, &bits) && bits == 7, "no screen is asked for anything");
+    expect(!title_of(&none, room, sizeof room, &written) && !written, "nor has it a title");
+    expect(asked_of(&it, &bits) && !bits, "of a new screen nothing is asked");
+    answer_is(TITLE, &it, 0, ROOM, "", "it has no title");
+    answer_is(UP, &it, 0, ROOM, "\033[A", "a cursor key is told");
+    answer_is(LEFT, &it, ANSI_MOUSE_PRESS, ROOM, "", "the mouse is not");
+    answer_is(FOCUS, &it, 1, ROOM, "", "nor the focus");
+    answer_is(PASTE, &it, sizeof PASTED - 1, ROOM, "a[201~\tb", "a paste has no controls");
+    feed_text(&it, "\033[?1;5;1002;1004;1006;2004;2026h\033[5 q\033[>3u\033]2;one");
+    feed_text(&it, " two\007");
+    expect(asked_of(&it, &bits), "it is asked for more");
+    expect(bits == (ANSI_ASKED_KEYS | ANSI_ASKED_MOUSE | ANSI_ASKED_FOCUS | ANSI_ASKED_PASTE | ANSI_ASKED_SYNCHRONIZED | ANSI_ASKED_REVERSE
+                    | ANSI_ASKED_CURSOR | ANSI_ASKED_TITLE), "and tells what");
+    expect(asked_of(&it, &bits) && !bits, "once");
+    expect(modes_of(&it, &on) && on.cursor_keys == 1 && on.key_flags == 3 && on.mouse == 3 && on.mouse_encoding == 1, "keys and mouse");
+    expect(on.focus == 1 && on.paste == 1 && on.synchronized == 1 && on.reverse == 1, "what is on");
+    expect(on.cursor_shape == 3 && on.cursor_blinks == 1 && !on.reserved[0] && on.autowrap == 1, "and the cursor");
+    answer_is(TITLE, &it, 0, ROOM, "one two", "the title comes in pieces too");
+    feed_text(&it, "\033[<u");
+    answer_is(UP, &it, 0, ROOM, "\033OA", "an application's cursor key");
+    answer_is(UP, &it, ANSI_HELD_CONTROL, ROOM, "\033[1;5A", "and with Control");
+    answer_is(LEFT, &it, ANSI_MOUSE_PRESS, ROOM, "\033[<0;5;3M", "a button");
+    answer_is(LEFT, &it, ANSI_MOUSE_RELEASE, ROOM, "\033[<0;5;3m", "is released");
+    answer_is(LEFT, &it, 0, ROOM, "", "or nothing");
+    answer_is(FOCUS, &it, 1, ROOM, "\033[I", "the focus comes");
+    answer_is(FOCUS, &it, 0, ROOM, "\033[O", "and goes");
+    answer_is(PASTE, &it, 1, ROOM, "\033[200~a\033[201~", "a paste in brackets");
+    expect(!paste_of(&it, (const unsigned char *)"\xff", 1, room, sizeof room, &written) && !written, "no UTF-8 is not pasted");
+    expect(reset(&it) && asked_of(&it, &bits) && bits == 8191, "after a reset all counts as set");
+    answer_is(TITLE, &it, 0, ROOM, "", "and there is no title");
+    close_screen(&it);
+}
+
 static void pieces(void)
 {
     static const char stream[] = "\033[31mred\033[0m\xe4\xb8\xad\r\n\033]0;title\007\033[2;3Hx\033[38;2;1;2;3my\xcc\x81";
@@ -731,6 +796,7 @@ int main(int count, char **words)
     changes();
     wraps_and_links();
     modes();
+    asks();
     pieces();
     resets();
     rows_that_left();

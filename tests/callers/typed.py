@@ -3,7 +3,7 @@ ends in `# wrong` is one that it has to refuse, and any other one that it has to
 
 import io
 import sys
-from typing import Dict, Hashable, Iterator, List, Sequence, Tuple
+from typing import Dict, Hashable, Iterator, List, Sequence, Set, Tuple
 
 import ansi_proved
 from ansi_proved import STYLINGS, Cell, Color, Csi, Cursor, Esc, Execute, History, Hook, Modes, Osc, Put, Screen, Style, Text, Unhook
@@ -122,6 +122,8 @@ with Screen(120, 40, history=100) as screen:
     columns: Tuple[int, int, int] = screen.changes()[0]
     cursor: Cursor = screen.cursor
     modes: Modes = screen.modes
+    asked: Set[str] = screen.asked()
+    read: bytes = screen.key("up", ctrl=True) + screen.mouse("press", 0, 0, button="left") + screen.paste(screen.title) + screen.focus(False)
     style: Style = cell.style
     color: Color = style.foreground
     number = color.values[0] + cursor.row + cursor.column + cell.width + cell.link

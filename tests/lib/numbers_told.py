@@ -26,6 +26,9 @@ OF_SHOWN = [
     'columns="120" lines="40"', "the terminal has {RECORDED_COLUMNS} columns and {RECORDED_ROWS} rows", "no line of up to {RECORDED_COLUMNS} columns wraps",
     "from {MIN_COLUMNS}x{MIN_ROWS} to {MAX_COLUMNS}x{MAX_ROWS}", "--shown 120x40",
 ]  # fmt: skip
+MODES_ASKED = ["1 presses (9), 2 releases too (1000), 3 drags (1002), 4 motion (1003)", "0 in three bytes, 1 by sgr (1006), 2 as urxvt (1015), 3 in pixels (1016)"]
+SHAPES = "0 the terminal's own, 1 a block, 2 a line below, 3 a bar (decscusr)"
+BUTTONS = "1 left, 2 middle, 3 right, 4 wheel up, 5 down, 6 left, 7 right, 8 back, 9 forward"
 CUT_OFF = ["with the byte, counted from {FIRST}, at which the string begins"]
 PHRASES = {
     "include/ansi_events.h": [
@@ -67,7 +70,10 @@ PHRASES = {
     "include/ansi_screen.h": [
         *OWED, "a character that is broken is u+fffd", "none, in {ansi_screen} bytes", "any other number is {ANY_STYLING}", "one of xterm's 256, by its number", "a colour, in {ansi_color} bytes",
         "is shown, in {ansi_style} bytes", "from bold on each is {ON} or {OFF}", "of a screen shows, in {ansi_cell} bytes", "each link (osc 8) since the last reset; {NO_LINK} for none",
-        "{GOES_ON} in the last cell of a row from which autowrap went on", "modes, in {ansi_modes} bytes: each is {ON} where it is on, else {OFF}", "dectcem. 1049. decawm", "decom. {OFF}.",
+        "{GOES_ON} in the last cell of a row from which autowrap went on", "modes, in {ansi_modes} bytes: each is {ON} where it is on, else {OFF}", "dectcem. 1049. decawm",
+        *MODES_ASKED, "1004: the focus", "2004: what is pasted", "2026: what is shown", SHAPES + ". {OFF}.", "5, where num lock is off", "a function key, 1 to 24",
+        "a key, in {ansi_key} bytes", "that is known; else 0", "the mouse does, in {ansi_mouse} bytes", "columns, rows and pixels count from 0", BUTTONS, "and at most {MAX_TEXT} bytes",
+        "they answer true, and written is 0", "answers false, and written is 0, where the text", "where gained is 0",
         "what it shows, in {ansi_screen_options} bytes", "about {CELL} bytes a cell. 0.", "where the cursor is, counted from {FIRST}", "its row and its column, counted from {FIRST}",
         "the cells of a row, counted from {FIRST}", "which cells of a row, counted from {FIRST}", "or part, and written is 0", ". a row, counted from {FIRST}",
         "has bytes from {LOWEST} to {HIGHEST} alone", "the last {LINKS} links that began are kept", "it answers true, and written is 0", "answer false, and written is 0",
@@ -81,7 +87,10 @@ PHRASES = {
         "the oldest has the number {FIRST}", "ansi_cell has, in {ansi_cell} bytes", "marks[{MOST_MARKS}]", "of its link (osc 8)", "takes; {NO_LINK} for none", "mark_count\" 0, 1 or {MOST_MARKS}.",
         "goes_on\" {GOES_ON} in the last cell", "one line; else 0", "ansi_style has, in {ansi_style} bytes", "on are {ON} or {OFF}", "the first is 0 to 7: black", "number of one of xterm's 256",
         *('%s" sgr {%s}' % (name, name) for name in screen_cells.ATTRIBUTES), "ansi_color has, in {ansi_color} bytes", "values[3]", "each {ON} where it is on, else {OFF}",
-        "ansi_modes has, in {ansi_modes} bytes", "screen shows (1049)", "lines are counted from the upper margin", "reserved[{RESERVED_MODES}]\" 0", "ansi_screen_options has, in {ansi_screen_options} bytes",
+        "ansi_modes has, in {ansi_modes} bytes", "screen shows (1049)", "lines are counted from the upper margin", "reserved[{RESERVED_MODES}]\" 0",
+        *MODES_ASKED, SHAPES, "focus is told (1004)", "in brackets (2004)", "this ends (2026)", "gained is 0", "ansi_key has, in {ansi_key} bytes", "ansi_mouse has, in {ansi_mouse} bytes",
+        "that is known; else 0", "uint8_t reserved\" 0", "5, where num lock is off", "a function key, 1 to 24", BUTTONS, "column\" counted from {FIRST}",
+        *("ansi_%s (%d)" % it for it in screen_cells.NUMBERED), "ansi_screen_options has, in {ansi_screen_options} bytes",
         "about {CELL} bytes a cell", "reserved[{RESERVED_OPTIONS}]\" 0", "ansi_screen has, in {ansi_screen} bytes", "their length. else it is 0",
         *("%s (%d)" % (name, number) for kind in (screen_cells.KINDS, screen_cells.PARTS) for number, name in enumerate(kind)),
         *("%s (%d)" % (name or "off", number) for number, name in enumerate(screen_cells.UNDERLINES)),
@@ -113,7 +122,7 @@ CONSTANTS = {
     "event_pieces/src/event": ["MAX_INTERMEDIATES"], "html_pieces/src/state": ["MAX_LINK"], "html_pieces/src/feeding": ["CAPACITY", "MOST_TAKEN"],
     "screen_html/src/table": ["MOST_KEPT"], "screen_draw/src/updates": ["PIECE"], "screen_text/src/recording": ["MOST_FRONT"], "ansi2html/src/words": ["MOST_OF_A_TAG"], "ansi_html/src/block": ["LINES_A_BLOCK"],
     "command_line/src/lib": ["FAILED", "MISUSED", "READER_GONE"], "ansi_screen/src/size": ["MIN_COLUMNS", "MAX_COLUMNS", "MIN_ROWS", "MAX_ROWS"],
-    "screen_pieces/src/modes": ["RESERVED_MODES"], "ansi_screen_c/src/history": ["RESERVED_OPTIONS"], "ansi_html/src/spare": ["BYTE_EARNS", "FEED_COUNTS"],
+    "screen_pieces/src/modes": ["RESERVED_MODES"], "ansi_modes/src/text": ["MAX_TEXT"], "ansi_screen_c/src/history": ["RESERVED_OPTIONS"], "ansi_html/src/spare": ["BYTE_EARNS", "FEED_COUNTS"],
 }  # fmt: skip
 PLAIN = ["PIECE", "MOST_FRONT", "MAX_COLUMNS", "MAX_ROWS"]  # which stand there with no commas
 

@@ -71,6 +71,17 @@ CELLS.update({
 })  # fmt: skip
 CELLS.update({(5, column): ("%x" % ord(WRAPPED[column]), "whole", 0, 0, "") for column in range(9)})
 
+# What the header gives numbers to: bits of what is asked for, keys, what is held, and what happens.
+NUMBERED = [("asked_" + name, 1 << it) for it, name in enumerate(
+    "keys mouse focus paste synchronized reverse cursor title icon folder progress bell colors".split())]  # fmt: skip
+NUMBERED += [("key_" + name, it) for it, name in enumerate("character enter tab backspace escape".split())]
+NUMBERED += [("key_" + name, 11 + it) for it, name in enumerate("up down right left home end insert delete page_up page_down".split())]
+NUMBERED += [("key_pad_" + name, 50 + it) for it, name in enumerate("decimal divide multiply subtract add separator equal enter begin".split())]
+NUMBERED += [("key_pad_0", 40), ("key_pad", 50), ("key_function", 100)]
+NUMBERED += [("held_" + name, 1 << it) for it, name in enumerate("shift alt control super hyper meta caps_lock num_lock".split())]
+NUMBERED += [("event_" + name, 1 + it) for it, name in enumerate("press repeat release".split())]
+NUMBERED += [("mouse_" + name, 1 + it) for it, name in enumerate("press release move".split())]
+
 # Modes, and the cursor: what is fed to a new screen of 4 columns and 3 rows; its modes, in the order of ansi_modes; and the cursor's row
 # and column. On at first: DECTCEM and DECAWM. In the last row a wrap is pending: the column is the number of columns.
 MODE_NAMES = ["cursor_shown", "alternate_screen", "autowrap", "insert", "origin"]

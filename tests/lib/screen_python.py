@@ -66,7 +66,7 @@ def mode_cases(ansi):
         screen = ansi.Screen(4, 3)
         screen.feed(stream)
         found = {name for name in table.MODE_NAMES if getattr(screen.modes, name) is True}
-        yield "modes after %r" % stream, None if found == on and set(map(type, screen.modes)) == {bool} else "they are %s" % (screen.modes,)
+        yield "modes after %r" % stream, None if found == on and set(map(type, screen.modes)) == {bool, int, str} else "they are %s" % (screen.modes,)
         is_so = screen.cursor == (*cursor, "cursor_shown" in on)
         yield "the cursor after %r" % stream, None if is_so else "it is %s" % (screen.cursor,)
     for pairs, same in (table.UNEQUAL, False), (table.EQUAL, True):
@@ -284,7 +284,41 @@ def shared_cases():
     yield "eight threads share a screen, a call at a time", failure(done)
 
 
+def asked_cases(ansi):
+    """What was asked for, and what a program reads by it: by xterm's ctlseqs and kitty's page."""
+    screen = ansi.Screen(4, 3)
+    rows = [
+        (lambda: (screen.title, screen.asked()), ("", set())),
+        (lambda: screen.key("up") + screen.key("a", ctrl=True) + screen.key("\u00e9") + screen.key("pad_5"), b"\x1b[A\x01\xc3\xa95"),
+        (lambda: screen.key("f5", shift=True) + screen.key("tab", shift=True) + screen.key("a", shift=True), b"\x1b[15;2~\x1b[ZA"),
+        (lambda: screen.mouse("press", 0, 0, button="left") + screen.focus() + screen.key("a", event="release"), b""),
+        (lambda: screen.paste("a\x1b[201~\n\u00e9"), b"a[201~\n\xc3\xa9"),
+        (lambda: screen.feed("\x1b[?1;1003;1004;1006;2004h\x1b]2;one\u00e9\x07\x07"), None),
+        (lambda: (screen.title, screen.asked()), ("one\u00e9", {"keys", "mouse", "focus", "paste", "title", "bell"})),
+        (lambda: screen.key("up") + screen.key("up", ctrl=True) + screen.focus(False), b"\x1bOA\x1b[1;5A\x1b[O"),
+        (lambda: screen.mouse("press", 4, 2, button="wheel_up", alt=True) + screen.mouse("move", 0, 0), b"\x1b[<72;5;3M\x1b[<35;1;1M"),
+        (lambda: screen.mouse("release", 299, 0, button="right"), b"\x1b[<2;300;1m"),
+        (lambda: screen.paste("a" * 9000), b"\x1b[200~" + b"a" * 9000 + b"\x1b[201~"),
+        (lambda: screen.modes[5:], (True, 0, "motion", "sgr", True, True, False, False, "", False)),
+        (lambda: screen.feed("\x1b[>11u\x1b[?1003;1006l\x1b[?5;2026h\x1b[4 q"), None),
+        (lambda: screen.key("a", event="release", super=True) + screen.key("enter"), b"\x1b[97;9:3u\x1b[13u"),
+        (lambda: screen.modes[5:], (True, 11, "", "", True, True, True, True, "underline", False)),
+        (lambda: (screen.reset(), screen.title, len(screen.asked())), (None, "", 13)),
+    ]
+    for number, (told, wanted) in enumerate(rows):
+        found = told()
+        yield "what is asked for, row %d" % number, None if found == wanted else "it is %r, and not %r" % (found, wanted)
+    wrong = [lambda: screen.key("upp"), lambda: screen.key(""), lambda: screen.key("a", event="up"), lambda: screen.mouse("press", 0, 0, button="l")]
+    wrong += [lambda: screen.key("a", control=True), lambda: screen.paste(b"a"), lambda: screen.mouse("click", 0, 0)]
+    for number, call in enumerate(wrong):
+        try:
+            found = call()
+        except (TypeError, ValueError) as error:
+            found = None if str(error) else "with no words"
+        yield "what is no key, mouse or paste, row %d" % number, found
+
+
 def cases(ansi):
-    for part in (told_cases, cell_cases, mode_cases, joined_cases, change_cases, memory_cases, kept_cases, busy_cases, closed_cases):
+    for part in (told_cases, cell_cases, mode_cases, asked_cases, joined_cases, change_cases, memory_cases, kept_cases, busy_cases, closed_cases):
         yield from part(ansi)
     yield from shared_cases()

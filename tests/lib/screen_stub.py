@@ -18,6 +18,8 @@ def fits(value, kind):
     name, of = kind.value.id, kind.slice
     if name == "List":
         return type(value) is list and all(fits(it, of) for it in value)
+    if name == "Set":
+        return type(value) is set and all(fits(it, of) for it in value)
     if name == "Tuple" and isinstance(of, ast.Tuple) and isinstance(of.elts[1], ast.Constant) and of.elts[1].value is ...:
         return type(value) is tuple and all(fits(it, of.elts[0]) for it in value)
     if name == "Tuple":
@@ -28,17 +30,20 @@ def fits(value, kind):
 
 
 def given_to(module, function):
-    """A value for each parameter that has no default: another screen, a number that is within a screen, or a str."""
+    """A value for each parameter that has no default: another screen, a number that is within a screen, a key, what the mouse does, or a str."""
     given = {"Screen": lambda name: module.Screen(3, 2), "int": lambda name: int("end" in name)}
     names = function.args.args[1 : len(function.args.args) - len(function.args.defaults)]
-    return [given.get(ast.unparse(it.annotation), lambda name: "\x1b[1;38;5;9mx")(it.arg) for it in names]
+    words = {"name": "up", "action": "press"}
+    return [words[it.arg] if it.arg in words else given.get(ast.unparse(it.annotation), lambda name: "\x1b[1;38;5;9mx")(it.arg) for it in names]
 
 
 def parameters_of(function):
     """The names of a function that is told, each with its default."""
     defaults = [it.value for it in function.args.defaults]
     names = [it.arg for it in function.args.args]
-    return list(zip(names, [inspect.Parameter.empty] * (len(names) - len(defaults)) + defaults))
+    found = list(zip(names, [inspect.Parameter.empty] * (len(names) - len(defaults)) + defaults))
+    found += [(it.arg, of.value) for it, of in zip(function.args.kwonlyargs, function.args.kw_defaults)]
+    return found + [(it.arg, inspect.Parameter.empty) for it in [function.args.kwarg] if it]
 
 
 def tuple_cases(module, told, values):
@@ -87,7 +92,8 @@ def literal_cases(module, stub):
             LITERALS[it.targets[0].id] = list(ast.literal_eval(it.value.slice))
     from ansi_proved import STYLINGS
 
-    wanted = {"_Kind": module.KINDS, "_Underline": module.UNDERLINES, "_Styling": list(STYLINGS)}
+    wanted = {"_Kind": module.KINDS, "_Underline": module.UNDERLINES, "_Styling": list(STYLINGS), "_Mouse": module.MOUSE, "_Encoding": module.ENCODINGS, "_Shape": module.SHAPES}
+    wanted.update(_Event=module.EVENTS, _Action=module.ACTIONS)
     yield "Python: the values that types are named by", None if LITERALS == wanted else "they are %s" % LITERALS
 
 

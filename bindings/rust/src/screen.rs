@@ -18,11 +18,17 @@
 //! assert_eq!((screen.history_count(), screen.history_text(0).as_str()), (1, "one"));
 //! ```
 //!
-//! It can't be resized, has no title, bell or shape of the cursor, does not tell what a program asks of keys and mouse, and sends no answers
-//! to the host: [`events`](crate::events) of the same bytes tell what asks for these.
+//! It can't be resized, and sends no answers to the host: [`events`](crate::events) of the same bytes tell what asks for these.
 //!
 //! Its library takes memory by `malloc`: in [`Screen::new`], [`Screen::with_history`] and [`Screen::try_clone`], and in
-//! [`Screen::draw`], [`Screen::update`] and [`Screen::to_html`] while they work.
+//! [`Screen::draw`], [`Screen::update`], [`Screen::to_html`], [`Screen::key`], [`Screen::mouse`], [`Screen::paste`] and
+//! [`Screen::focus`] while they work.
+
+mod keys;
+
+pub use keys::{
+    Action, Asked, Button, Encoding, Event, Held, Key, Mouse, Move, Pad, Shape, Tracking, Wheel,
+};
 
 use crate::Styling;
 use alloc::string::String;
@@ -71,7 +77,14 @@ struct CellBytes {
 #[derive(Default)]
 struct ModeBytes {
     modes: [u8; 5],
-    reserved: [u8; 11],
+    cursor_keys: u8,
+    key_flags: u8,
+    mouse: u8,
+    mouse_encoding: u8,
+    asked: [u8; 4],
+    cursor_shape: u8,
+    cursor_blinks: u8,
+    reserved: [u8; 1],
 }
 
 #[repr(C)]
@@ -309,7 +322,7 @@ pub struct Place {
     pub column: usize,
 }
 
-/// Modes of the screen.
+/// Modes of the screen, and what a program asked for.
 #[derive(Clone, Copy, Debug, PartialEq, Eq, Hash)]
 #[non_exhaustive]
 #[allow(clippy::struct_excessive_bools, reason = "each goes with any other")]
@@ -324,6 +337,26 @@ pub struct Modes {
     pub insert: bool,
     /// Rows are counted from the upper margin (DECOM).
     pub origin: bool,
+    /// The cursor keys are those of an application (DECCKM).
+    pub cursor_keys: bool,
+    /// The flags of kitty's keyboard protocol.
+    pub key_flags: u8,
+    /// What is told of the mouse.
+    pub mouse: Option<Tracking>,
+    /// How it is written.
+    pub mouse_encoding: Encoding,
+    /// The focus is told (1004).
+    pub focus: bool,
+    /// What is pasted comes in brackets (2004).
+    pub paste: bool,
+    /// What is shown changes only where this ends (2026).
+    pub synchronized: bool,
+    /// Light and dark change places on the whole screen (DECSCNM).
+    pub reverse: bool,
+    /// The cursor's shape (DECSCUSR).
+    pub cursor_shape: Shape,
+    /// It blinks.
+    pub cursor_blinks: bool,
 }
 
 /// There is no screen of that size, or no memory for it.
@@ -438,12 +471,39 @@ impl Screen {
         unsafe { ansi_screen_modes(self.handle(), &raw mut bytes) };
         let [cursor_shown, alternate_screen, autowrap, insert, origin] =
             bytes.modes.map(|mode| mode != 0);
+        let [focus, paste, synchronized, reverse] = bytes.asked.map(|mode| mode != 0);
         Modes {
             cursor_shown,
             alternate_screen,
             autowrap,
             insert,
             origin,
+            cursor_keys: bytes.cursor_keys != 0,
+            key_flags: bytes.key_flags,
+            mouse: match bytes.mouse {
+                1 => Some(Tracking::Presses),
+                2 => Some(Tracking::Buttons),
+                3 => Some(Tracking::Drags),
+                4 => Some(Tracking::Motion),
+                _ => None,
+            },
+            mouse_encoding: match bytes.mouse_encoding {
+                1 => Encoding::Sgr,
+                2 => Encoding::Urxvt,
+                3 => Encoding::Pixels,
+                _ => Encoding::Bytes,
+            },
+            focus,
+            paste,
+            synchronized,
+            reverse,
+            cursor_shape: match bytes.cursor_shape {
+                1 => Shape::Block,
+                2 => Shape::Underline,
+                3 => Shape::Bar,
+                _ => Shape::Own,
+            },
+            cursor_blinks: bytes.cursor_blinks != 0,
         }
     }
 
@@ -491,7 +551,13 @@ impl Screen {
     /// empty.
     pub fn to_html(&self, styling: Styling) -> String {
         self.read(|handle, room, written| unsafe {
-            ansi_screen_html(handle, styling as u8, room.as_mut_ptr(), room.len(), written)
+            ansi_screen_html(
+                handle,
+                styling as u8,
+                room.as_mut_ptr(),
+                room.len(),
+                written,
+            )
         })
     }
 
@@ -510,7 +576,13 @@ impl Screen {
             return Vec::new(); // (one handle is given to a call once)
         }
         self.bytes_by(|handle, room, written| unsafe {
-            ansi_screen_update(handle, wanted.handle(), room.as_mut_ptr(), room.len(), written)
+            ansi_screen_update(
+                handle,
+                wanted.handle(),
+                room.as_mut_ptr(),
+                room.len(),
+                written,
+            )
         })
     }
 
@@ -615,12 +687,13 @@ impl Screen {
 /// As [`Screen::try_clone`]; it panics where there is no memory.
 impl Clone for Screen {
     fn clone(&self) -> Screen {
-        self.try_clone().expect("there is no memory for a copy of a screen")
+        self.try_clone()
+            .expect("there is no memory for a copy of a screen")
     }
 }
 
 /// Whether both show the same: as many columns and rows, the same cells, the cursor, with the style of what comes next, and
-/// modes. Cells have links and say which rows go on, which [`Screen::draw`] and [`Screen::update`] leave out: a screen that was fed what
+/// modes, but for what was asked for. Cells have links and say which rows go on, which [`Screen::draw`] and [`Screen::update`] leave out: a screen that was fed what
 /// these write is not equal to one that has a link or a row that goes on.
 impl PartialEq for Screen {
     fn eq(&self, other: &Screen) -> bool {
@@ -681,9 +754,8 @@ fn style_of(bytes: StyleBytes) -> Style {
 }
 
 fn cell_of(bytes: CellBytes) -> Cell {
-    let mark = |place: u8| {
-        (place < bytes.mark_count).then(|| char_of(bytes.marks[usize::from(place)]))
-    };
+    let mark =
+        |place: u8| (place < bytes.mark_count).then(|| char_of(bytes.marks[usize::from(place)]));
     Cell {
         character: char_of(bytes.character),
         marks: [mark(0), mark(1)],

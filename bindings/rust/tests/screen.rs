@@ -2,7 +2,8 @@
 //! repository.)
 #![cfg(feature = "screen")]
 
-use ansi_proved::screen::{CannotOpen, Cell, Color, Part, Place, Screen, Style};
+use ansi_proved::screen::{Action, Button, CannotOpen, Cell, Color, Encoding, Event, Held, Key, Mouse, Move, Pad, Part, Place, Screen, Shape, Style};
+use ansi_proved::screen::{Tracking, Wheel};
 use ansi_proved::{to_html, Styling};
 use std::collections::HashSet;
 use std::error::Error;
@@ -185,6 +186,35 @@ fn each_difference_counts() {
     all_differ(&modes, &modes.map(|it| shown(4, 2, it).modes()));
     let places = ["", "A", "\r\n", "\r\nA"];
     all_differ(&places, &places.map(|it| shown(4, 2, it).cursor()));
+}
+
+/// What is asked for, and what a program reads by it: by xterm's ctlseqs and kitty's page.
+#[test]
+fn what_is_asked_for_is_told() {
+    let (mut screen, none) = (shown(4, 3, "\x1b]2;one\x07"), Held::default());
+    let control = Held { control: true, ..none };
+    let press = |screen: &Screen, key, held| screen.key(key, held, Event::Press);
+    let at = |action| Mouse { action, held: none, column: 4, row: 2, x: 0, y: 0 };
+    assert!(screen.asked().title && !screen.asked().title && screen.title() == "one");
+    assert_eq!(press(&screen, Key::Move(Move::Up), none), b"\x1b[A");
+    assert_eq!(press(&screen, Key::Character('a'), control), b"\x01");
+    assert_eq!(press(&screen, Key::Typed('a', 'A'), Held { shift: true, ..none }), b"A");
+    assert_eq!(press(&screen, Key::Function(25), none), b"");
+    assert_eq!(press(&screen, Key::Pad(Pad::Digit(5)), none), b"5");
+    assert_eq!(screen.mouse(at(Action::Press(Button::Left))), b"");
+    assert_eq!((screen.focus(true), screen.paste("\x1ba")), (vec![], b"a".to_vec()));
+    screen.feed(b"\x1b[?1;66;1003;1004;1006;2004;2026h\x1b[>11u\x1b[4 q");
+    let modes = screen.modes();
+    assert_eq!((modes.mouse, modes.mouse_encoding, modes.key_flags), (Some(Tracking::Motion), Encoding::Sgr, 11));
+    assert_eq!((modes.cursor_shape, modes.cursor_blinks), (Shape::Underline, false));
+    assert!(modes.cursor_keys && modes.focus && modes.paste && modes.synchronized && !modes.reverse && modes.autowrap);
+    assert_eq!(screen.key(Key::Character('a'), none, Event::Release), b"\x1b[97;1:3u");
+    assert_eq!(screen.mouse(at(Action::Turn(Wheel::Right))), b"\x1b[<67;5;3M");
+    assert_eq!(screen.mouse(at(Action::Release(Button::Right))), b"\x1b[<2;5;3m");
+    assert_eq!(screen.mouse(at(Action::Move(None))), b"\x1b[<35;5;3M");
+    assert_eq!((screen.focus(false), screen.paste("a")), (b"\x1b[O".to_vec(), b"\x1b[200~a\x1b[201~".to_vec()));
+    screen.reset();
+    assert!(screen.title().is_empty() && screen.asked().colors && screen.modes().mouse.is_none());
 }
 
 fn all_differ<T: PartialEq + std::fmt::Debug>(names: &[impl std::fmt::Debug], all: &[T]) {

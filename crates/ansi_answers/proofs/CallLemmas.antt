@@ -1,11 +1,11 @@
 -- The calls of a control sequence, of a device control string that ESC \ ends, and of a command.
-use Rattle.std.proofs.Common.{◌≡◌, ℕ, ◌<◌, Bool, true, false, List, [], ◌∷◌, ◌++◌, map, refl, sym, ap, ap₂, ◌∙◌, subst, append_assoc, append-nil, arith}
+use Rattle.std.proofs.Common.{◌≡◌, ℕ, Bool, true, false, List, [], ◌∷◌, ◌++◌, map, refl, ap, ap₂, ◌∙◌, subst, append_assoc, append-nil, arith}
 use Rattle.std.specs.Prelude.{if◌then◌else◌}
 use Rattle.std.specs.List.{join_with_byte}
 use Rattle.std.proofs.lemmas.Bool.{false≢true}
-use Rattle.anstyle_parse.specs.Stream.Bytes.{is_within, is_control, is_escape, is_cancel, is_intermediate, is_final, semicolon, bell, string_terminator, escape_byte}
+use Rattle.anstyle_parse.specs.Stream.Bytes.{is_within, is_control, is_escape, is_cancel, is_final, semicolon, bell, string_terminator, escape_byte}
 use Rattle.anstyle_parse.specs.Stream.Arguments.{after_marker, has_shape, groups_of, collected_of, ignore_of, parts_of}
-use Rattle.anstyle_parse.specs.Stream.Call.{Call, hook, put, unhook, osc_dispatch, csi_dispatch, esc_dispatch}
+use Rattle.anstyle_parse.specs.Stream.Call.{hook, put, unhook, osc_dispatch, csi_dispatch}
 use Rattle.anstyle_parse.specs.Stream.Items.{dcs, broken_off, sequence, EachIs, is_introducer, is_string_kind, is_text_byte, IsBody}
 use Rattle.anstyle_parse.specs.Stream.Calls.{is_put, body_calls, AreCalls}
 use Rattle.anstyle_parse.specs.Stream.Canon.{leading_marker, header_text, escape_text}

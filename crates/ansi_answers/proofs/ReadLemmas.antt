@@ -1,9 +1,8 @@
 -- An answer is read as its calls.
-use Rattle.std.proofs.Common.{◌≡◌, ℕ, ◌+◌, ◌≤◌, ◌<◌, Bool, true, false, List, [], ◌∷◌, ◌++◌, length, refl, sym, ap, ◌∙◌, subst, arith, append_assoc, length-append, decimal}
-use Rattle.std.specs.List.{AllByRecursion, concat}
+use Rattle.std.proofs.Common.{◌≡◌, ℕ, ◌≤◌, true, false, List, [], ◌∷◌, ◌++◌, length, refl, ap, ◌∙◌, subst, arith, append_assoc, length-append, decimal}
 use Rattle.std.specs.Fmt.{digits}
 use Rattle.std.proofs.lemmas.Bool.{false≢true}
-use Rattle.anstyle_parse.specs.Stream.Bytes.{is_within, is_control, is_marker, is_intermediate, is_parameter, is_significant, is_final, semicolon, escape_byte}
+use Rattle.anstyle_parse.specs.Stream.Bytes.{is_within, is_control, is_marker, is_intermediate, is_parameter, is_significant, is_final, escape_byte}
 use Rattle.anstyle_parse.specs.Stream.Arguments.{after_marker, groups_of, collected_of, ignore_of, max_field, is_kept}
 use Rattle.anstyle_parse.specs.Stream.Items.{EachIs, is_header_byte}
 use Rattle.anstyle_parse.specs.Stream.Calls.{is_put, AreCalls}
@@ -19,8 +18,8 @@ use Rattle.ansi_modes.specs.declared.colors.Rgb.{Rgb}
 use Rattle.ansi_modes.specs.Colors.{is_hex}
 use Rattle.ansi_answers.specs.declared.answer.Answer.{Answer}
 use Rattle.ansi_answers.specs.declared.answer.Answer.TheVariants.{AllIsWell, CursorPosition, ExtendedPosition, PrimaryAttributes, SecondaryAttributes, TertiaryAttributes, Version, Mode, PrivateMode, Rendition, Margins, CursorShape, NoSetting, Size, KeyFlags, PaletteColor, PaintColor}
-use Rattle.ansi_answers.specs.Text.{state_number, paint_number, with_one, with_two, color_text, end_text, selection_text, answer_text}
-use Rattle.ansi_answers.specs.Calls.{one, sequence, string, command, setting, answer_calls, AreBytes, IsBounded, is_answer_byte}
+use Rattle.ansi_answers.specs.Text.{state_number, paint_number, color_text, end_text, selection_text, answer_text}
+use Rattle.ansi_answers.specs.Calls.{one, sequence, setting, answer_calls, AreBytes, IsBounded}
 use Rattle.ansi_answers.proofs.RenditionLemmas.{selection-put}
 use Rattle.ansi_answers.proofs.CallLemmas.{AreCalls-sequence, AreCalls-string, AreCalls-command}
 use Rattle.ansi_answers.proofs.ByteLemmas.{state-few, paint-few, color-each, hex-implies, length-color}

@@ -1,5 +1,5 @@
 -- The numbers of a style, part by part; what they are made of, and how many bytes they have.
-use Rattle.std.proofs.Common.{◌≡◌, ℕ, ◌+◌, ◌≤◌, ◌<◌, Bool, true, false, not, ◌||◌, List, [], ◌∷◌, ◌++◌, length, drop, refl, sym, ap, ◌∙◌, subst, arith, length-append, decimal}
+use Rattle.std.proofs.Common.{◌≡◌, ℕ, ◌+◌, ◌≤◌, ◌<◌, Bool, true, false, List, [], ◌∷◌, ◌++◌, length, drop, refl, sym, ap, ◌∙◌, subst, arith, length-append, decimal}
 use Rattle.std.specs.Fmt.{digits}
 use Rattle.std.proofs.lemmas.Fmt.{length-decimal-le}
 use Rattle.anstyle_parse.specs.Stream.Bytes.{is_within, is_control, is_parameter}

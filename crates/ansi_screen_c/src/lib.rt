@@ -2,6 +2,7 @@
 //! what their caller owes.
 #![tactic(auto)]
 
+mod asking;
 mod changes;
 mod drawing;
 mod handle;
@@ -14,7 +15,8 @@ mod text;
 ghost use Rattle.std.specs.Prelude.{◌≡◌, ◌<◌, ◌≤◌, ◌⊎◌, None, Some, IfSome, length};
 ghost use Rattle.std.specs.Bool.{OnTrue, OnFalse};
 ghost use Rattle.ansi_style.specs.Bytes.{style_of};
-ghost use Rattle.screen_pieces.specs.Terminal.{IsNew, Feeds, Begins, HasCell, HasRow, HasModes, display_of};
+ghost use Rattle.screen_pieces.specs.Terminal.{IsNew, Feeds, Begins, HasCell, HasRow, display_of, asked_of};
+ghost use Rattle.screen_pieces.specs.Modes.{HasModes};
 ghost use Rattle.screen_pieces.specs.Text.{LacksRow, LacksCell};
 ghost use Rattle.ansi_screen_c.specs.Calls.{Opens, Both, Holds, IsNoneOr};
 
@@ -204,14 +206,15 @@ pub extern "C" fn ansi_screen_style(
     }
 }
 
-/// Writes the modes. It answers false, and writes nothing, where no screen is held.
+/// Writes the modes, and what was asked for. It answers false, and writes nothing, where no screen is held.
 #[unsafe(no_mangle)]
 pub extern "C" fn ansi_screen_modes(
     alloc: Global,
     screen: &mut Handle,
     modes: &mut ModeBytes,
 ) -> bool
-    ensures modes { OnTrue result (Holds (λ terminal. HasModes modes.new (display_of terminal)) screen.old.value) }
+    ensures modes { OnTrue result
+        (Holds (λ terminal. HasModes modes.new (display_of terminal) (asked_of terminal)) screen.old.value) }
     ensures kept { screen.new.value ≡ screen.old.value }
     ensures refused { OnFalse result (modes.new ≡ modes.old) }
     ensures none { OnFalse result (screen.old.value ≡ None) }

@@ -157,10 +157,14 @@ fn after(facts: Facts, theme: Theme, bytes: &[u8]) -> Talk {
 }
 
 /// The bytes are answered so.
-fn assert_answered(rt: &(impl Abort + AllocGlobal), talk: &Talk, wanted: &[u8]) {
-    let written = bytes_of_answers(rt, talk.waiting.answers());
+fn assert_answers(rt: &(impl Abort + AllocGlobal), answers: &[Answer], wanted: &[u8]) {
+    let written = bytes_of_answers(rt, answers);
     assert_same(rt, &written.as_slice(), &wanted);
     drop(written);
+}
+
+fn assert_answered(rt: &(impl Abort + AllocGlobal), talk: &Talk, wanted: &[u8]) {
+    assert_answers(rt, talk.waiting.answers(), wanted);
 }
 
 /// Bytes, and what is written back.

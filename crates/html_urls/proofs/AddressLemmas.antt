@@ -1,8 +1,10 @@
 -- How long an address is, and what begins a scheme.
-use Rattle.std.proofs.Common.{◌≡◌, ◌<◌, ◌≤◌, ◌-◌, ℕ, zero, suc, Bool, true, false, List, [], ◌∷◌, ◌++◌, ◌⊎◌, inl, inr, length, take, drop, refl, sym, ap, ◌∙◌, subst, take-append-drop, length-take, arith}
-use Rattle.std.specs.Prelude.{nat_lt, if◌then◌else◌}
+use Rattle.std.proofs.Common.{◌≡◌, ◌<◌, ◌≤◌, ◌-◌, ℕ, zero, suc, Bool, true, false, ◌||◌, ◌&&◌, List, [], ◌∷◌, ◌++◌, ◌⊎◌, inl, inr, length, take, drop, refl, sym, ap, ap₂, ◌∙◌, subst, take-append-drop, length-append, length-take, arith}
+use Rattle.std.specs.Prelude.{nat_eq, nat_lt, if◌then◌else◌}
 use Rattle.std.proofs.lemmas.Bool.{ltb-true, ltb-false}
-use Rattle.html_urls.specs.Addresses.{last_of, goes_past, address_length, address_of, behind_address, IsAddressOf}
+use Rattle.std.proofs.lemmas.List.{take_at, drop_at}
+use Rattle.std.specs.Char.{is_ascii_alphanumeric}
+use Rattle.html_urls.specs.Addresses.{last_of, is_behind, ends_entity, parts_entity, goes_past, address_length, address_of, behind_address, IsAddressOf}
 
 pub address_length-less : (n : ℕ) (text : List ℕ) → 0 < n → goes_past (take n text) (drop n text) ≡ true → address_length n text ≡ address_length (n - 1) text
 address_length-less zero text some behind = absurd (omega (arith, some))
@@ -63,3 +65,20 @@ address-is run =
       ends = none-taken run k cut.ends;
       longest = λ n above below. cut.longest n (subst (λ (m : ℕ). m < n) taken above) below;
     }
+
+-- So it is where the text is parted at a place.
+module _ (text front behind before : List ℕ) (last : ℕ) (is_parted : Bool) (joined : text ≡ front ++ behind) (split : front ≡ before ++ last ∷ [])
+    (parted : is_parted ≡ parts_entity front behind) where
+  pub past-is : goes_past (take (length front) text) (drop (length front) text) ≡ (is_behind front last || is_parted)
+  past-is =
+      let n = length front in
+      ap₂ (λ (l m : List ℕ). goes_past l m) (ap (take n) joined ∙ take_at front behind n refl) (ap (drop n) joined ∙ drop_at front behind n refl)
+      ∙ ap₂ (λ (s t : Bool). s || t) (ap (is_behind front) (ap last_of split ∙ last_of-is before last)) (sym parted)
+
+  pub length-front : length front ≡ suc (length before)
+  length-front = let count = ap length split in omega (arith, count, length-append before (last ∷ []))
+
+  pub parts-before : (if nat_eq last 0x3B then ends_entity false false before else is_ascii_alphanumeric last && is_parted) ≡ parts_entity before (last ∷ behind)
+  parts-before =
+      ap (λ (t : Bool). if nat_eq last 0x3B then ends_entity false false before else is_ascii_alphanumeric last && t)
+      (parted ∙ ap (λ (l : List ℕ). parts_entity l behind) split)

@@ -1,5 +1,6 @@
 pub mod AddressLemmas
 pub mod CaseLemmas
+pub mod EntityLemmas
 pub mod SchemeLemmas
 pub mod LinkerLemmas
 pub mod TargetLemmas

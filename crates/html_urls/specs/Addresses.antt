@@ -6,7 +6,7 @@
 -- looks like an entity, and brackets that it does not open.
 use Rattle.std.specs.Prelude.{◌≡◌, ◌<◌, ◌≤◌, ◌+◌, ◌/◌, ◌%◌, ℕ, zero, suc, Bool, true, false, not, ◌||◌, ◌&&◌, ◌⊎◌, nat_le, nat_lt, nat_eq, ◌==◌, List, [], ◌∷◌, ◌++◌, codes, length, map, take, drop, count_by, encode_utf8, ⊤, if◌then◌else◌}
 use Rattle.std.specs.Char.{to_ascii_lowercase, is_ascii_alphanumeric}
-use Rattle.std.specs.List.{flat_map, starts_with, ends_with}
+use Rattle.std.specs.List.{flat_map, starts_with}
 use Rattle.anstyle_parse.specs.Stream.Bytes.{semicolon}
 use Rattle.anstyle_parse.specs.Stream.Items.{EachIs}
 use Rattle.ansi_html.specs.Links.{has_scheme}
@@ -97,20 +97,18 @@ is_behind text last =
 abbrev pub ends_behind : (text : List ℕ) → Bool
 ends_behind text = is_behind text (last_of text)
 
--- `&` and letters or digits stand at the end of a text; and they stand first, and then `;`
-abbrev pub opens_entity : (opened : Bool) → List ℕ → Bool
-opens_entity opened [] = opened
-opens_entity opened (c ∷ text) = opens_entity (nat_eq c 0x26 || (opened && is_ascii_alphanumeric c)) text
-
-abbrev pub closes_entity : List ℕ → Bool
-closes_entity [] = false
-closes_entity (c ∷ text) = nat_eq c 0x3B || (is_ascii_alphanumeric c && closes_entity text)
+-- `&` and letters or digits stand at the end of a text, at least one of these: where they did before it or not.
+abbrev pub ends_entity : (opened named : Bool) → List ℕ → Bool
+ends_entity opened named [] = opened && named
+ends_entity opened named (c ∷ text) =
+    ends_entity (nat_eq c 0x26 || (opened && is_ascii_alphanumeric c)) (is_ascii_alphanumeric c) text
 
 -- A text ends within what looks like an entity, `&`, letters or digits and `;`, of which the rest stands behind it.
 abbrev pub parts_entity : (text behind : List ℕ) → Bool
-parts_entity text behind =
-    closes_entity behind
-    && (opens_entity false text && not (ends_with nat_eq text (codes "&") && starts_with nat_eq behind (codes ";")))
+parts_entity text [] = false
+parts_entity text (c ∷ behind) =
+    if nat_eq c 0x3B then ends_entity false false text
+    else is_ascii_alphanumeric c && parts_entity (text ++ c ∷ []) behind
 
 -- More than the address stands in a text, before what stands behind it.
 abbrev pub goes_past : (text behind : List ℕ) → Bool

@@ -1,7 +1,8 @@
 //! Where an address begins in a text, how far it goes, and where it ends.
-ghost use Rattle.std.specs.Prelude.{◌≡◌, ◌≤◌, ◌==◌, IsTrue, false, nat_eq, length, take, drop, count_by};
+ghost use Rattle.std.specs.Prelude.{◌≡◌, ◌≤◌, ◌==◌, ◌||◌, ◌&&◌, IsTrue, false, nat_eq, length, take, drop, count_by, if◌then◌else◌};
+ghost use Rattle.std.specs.Char.{is_ascii_alphanumeric};
 ghost use Rattle.std.specs.List.{starts_with};
-ghost use Rattle.html_urls.specs.Addresses.{is_of_word, is_of_uri, is_beyond_uri, is_of_address, in_small, says_scheme, begins_scheme, is_mark, is_unmatched, is_behind, ends_behind, opens_entity, closes_entity, parts_entity, goes_past, address_length, is_address};
+ghost use Rattle.html_urls.specs.Addresses.{is_of_word, is_of_uri, is_beyond_uri, is_of_address, in_small, says_scheme, begins_scheme, is_mark, is_unmatched, is_behind, ends_entity, address_length, is_address};
 
 /// Whether the character may stand in a scheme, so that none begins right after it.
 pub(crate) fn is_of_word(c: char) -> bool
@@ -142,60 +143,44 @@ fn is_behind(text: &[char], last: char) -> bool
     }
 }
 
-/// The same of a text that has one.
-fn ends_behind(text: &[char]) -> bool
-    ensures { result ≡ ends_behind text.now }
+/// Whether `&` and letters or digits stand at the end of a text, at least one of these.
+fn ends_entity(text: &[char]) -> bool
+    ensures { result ≡ ends_entity false false text.now }
 {
-    match text.split_last() {
-        Some((last, _)) => is_behind(text, *last),
-        None => false,
-    }
-}
-
-/// Whether `&` and letters or digits stand at the end of a text.
-fn opens_entity(text: &[char]) -> bool
-    ensures { result ≡ opens_entity false text.now }
-{
-    let mut opened = false;
+    let mut is_named = false;
     let mut rest = text;
-    'text: while let Some((c, behind)) = rest.split_first() {
-        opened = *c == '&' || opened && c.is_ascii_alphanumeric();
-        rest = behind;
-    }
-    opened
-}
-
-/// Whether letters or digits stand first in a text, and then `;`.
-fn closes_entity(text: &[char]) -> bool
-    ensures { result ≡ closes_entity text.now }
-{
-    let mut rest = text;
-    'text: while let Some((c, behind)) = rest.split_first() {
-        if *c == ';' {
-            return true;
+    'rest: while let Some((last, before)) = rest.split_last() {
+        if *last == '&' {
+            return is_named;
         }
-        if !c.is_ascii_alphanumeric() {
+        if !last.is_ascii_alphanumeric() {
             return false;
         }
-        rest = behind;
+        is_named = true;
+        rest = before;
     }
     false
 }
 
-/// Whether what looks like an entity begins in a text and ends in what stands behind it.
-fn parts_entity(text: &[char], behind: &[char]) -> bool
-    ensures { result ≡ parts_entity text.now behind.now }
+/// Whether a text ends within what looks like an entity, if what stands behind it begins with this character, and where
+/// the text with it does or not.
+fn parts_entity(text: &[char], c: char, is_parted: bool) -> bool
+    ensures { result ≡ (if nat_eq c 0x3B then ends_entity false false text.now
+        else is_ascii_alphanumeric c && is_parted) }
 {
-    closes_entity(behind)
-        && opens_entity(text)
-        && !(text.ends_with(&['&']) && behind.starts_with(&[';']))
+    if c == ';' {
+        ends_entity(text)
+    } else {
+        c.is_ascii_alphanumeric() && is_parted
+    }
 }
 
-/// Whether more than the address stands in a text, before what stands behind it.
-fn goes_past(text: &[char], behind: &[char]) -> bool
-    ensures { result ≡ goes_past text.now behind.now }
+/// Whether more than the address stands in a text that ends with this character, within what looks like an entity or
+/// not.
+fn goes_past(text: &[char], last: char, is_parted: bool) -> bool
+    ensures { result ≡ (is_behind text.now last || is_parted) }
 {
-    ends_behind(text) || parts_entity(text, behind)
+    is_parted || is_behind(text, last)
 }
 
 /// How many characters of a text are the address.
@@ -203,13 +188,14 @@ fn address_length(text: &[char]) -> usize
     ensures length { result ≡ address_length (length text.now) text.now }
     ensures within { result ≤ length text.now }
 {
-    let mut count = text.len();
-    'count: while count > 0 {
-        let (front, behind) = text.split_at(count);
-        if !goes_past(front, behind) {
-            return count;
+    let mut is_parted = false;
+    let mut front = text;
+    'front: while let Some((last, before)) = front.split_last() {
+        if !goes_past(front, *last, is_parted) {
+            return front.len();
         }
-        count -= 1;
+        is_parted = parts_entity(before, *last, is_parted);
+        front = before;
     }
     0
 }

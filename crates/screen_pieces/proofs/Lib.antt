@@ -8,3 +8,4 @@ pub mod DrawingLemmas
 pub mod PartLemmas
 pub mod PlainLemmas
 pub mod ChangesLemmas
+pub mod AskedLemmas

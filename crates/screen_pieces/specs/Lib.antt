@@ -7,3 +7,6 @@ pub mod WatchedProof
 pub mod Terminal
 pub mod Same
 pub mod Page
+pub mod Modes
+pub mod Keys
+pub mod Telling

@@ -2,7 +2,7 @@
 use Rattle.std.specs.Prelude.{◌≡◌, ◌<◌, ◌≤◌, ℕ, Some, List, [], ◌++◌, length, take, drop, map, slice_index_or}
 use Rattle.ansi_style.specs.Style.{plain}
 use Rattle.anstyle_parse.specs.Stream.Call.{Call}
-use Rattle.anstyle_parse.specs.Stream.Calls.{AreCalls}
+use Rattle.anstyle_parse.specs.Stream.Calls.{AreCalls, Continues}
 use Rattle.anstyle_parse.specs.Views.Accumulator.{front_of}
 use Rattle.anstyle_parse.specs.Views.Parser.{IsAfter}
 use Rattle.ansi_screen.specs.declared.cell.Cell.{Cell}
@@ -13,17 +13,19 @@ use Rattle.ansi_screen.specs.Display.{Display, row_cells, shown_cells}
 use Rattle.ansi_screen.specs.History.{Kept, nothing_kept}
 use Rattle.ansi_screen.specs.Leaving.{unkept}
 use Rattle.ansi_screen.specs.Laws.{with_shown}
+use Rattle.ansi_modes.specs.declared.asked.Asked.{Asked}
+use Rattle.ansi_modes.specs.Asked.{nothing_asked, asked_after_all}
+use Rattle.ansi_modes.specs.Changes.{all_changes}
+use Rattle.ansi_modes.specs.Laws.{untold}
 use Rattle.screen_html.specs.Links.{Kept as KeptLink, Table, no_links}
 use Rattle.screen_html.specs.Page.{all_links}
 use Rattle.screen_pieces.specs.declared.cell.CellBytes.{CellBytes}
-use Rattle.screen_pieces.specs.declared.modes.ModeBytes.{ModeBytes}
 use Rattle.screen_pieces.specs.declared.terminal.Terminal.{Terminal}
 use Rattle.screen_pieces.specs.Cells.{cell_in}
 use Rattle.screen_pieces.specs.History.{nothing_yet, kept_of, kept_row, KeepsLeft}
-use Rattle.ansi_style.specs.Bytes.{is_set}
 
 abbrev pub screen_of : Terminal → State
-screen_of terminal = terminal.watched.screen
+screen_of terminal = terminal.both.first.screen
 
 abbrev pub display_of : Terminal → Display
 display_of terminal = (screen_of terminal).display
@@ -34,10 +36,23 @@ history_of terminal = kept_of (display_of terminal).history
 
 -- its table of links, and those that this keeps, by their numbers
 abbrev pub table_of : Terminal → Table
-table_of terminal = terminal.watched.links
+table_of terminal = terminal.both.first.links
 
 abbrev pub links_of : Terminal → List KeptLink
 links_of terminal = (table_of terminal).places
+
+-- what the stream asked for beside the screen
+abbrev pub asked_of : Terminal → Asked
+asked_of terminal = terminal.both.second
+
+-- It is what the bytes ask for. What of it was told, they do not decide.
+abbrev pub HasAsked : List ℕ → Asked → Type 0
+HasAsked bytes asked =
+    (calls : List Call) × AreCalls bytes calls × (untold asked ≡ untold (asked_after_all calls nothing_asked))
+
+-- The calls that a piece adds to those of the bytes before lead from the one to the other, also in what is told.
+abbrev pub AsksOn : (before piece : List ℕ) → (old new : Asked) → Type 0
+AsksOn before piece old new = (calls : List Call) × Continues before piece calls × (new ≡ asked_after_all calls old)
 
 -- Kept are the last of the links that began by the bytes, from a first screen on.
 abbrev pub KeepsLinks : State → List ℕ → Table → Type 0
@@ -49,18 +64,28 @@ abbrev pub begun : (first : State) → Terminal → State
 begun first terminal = with_shown (display_of terminal).shown (unkept first)
 
 -- It stands after the bytes: its screen is the one that they lead to, from a first one on, its parser stands after
--- them, and what it keeps are the last rows that left by them and the last links that began.
+-- them, and what it keeps are the last rows that left by them and the last links that began; and it has been asked for
+-- what they ask for.
 pub record StandsAfter (first : State) (bytes : List ℕ) (terminal : Terminal) : Type 0 where
   pub shows : Shows (begun first terminal) bytes (unkept (screen_of terminal))
   pub parser : IsAfter front_of terminal.parser bytes
   pub history : KeepsLeft first bytes (display_of terminal).history
   pub links : KeepsLinks first bytes (table_of terminal)
+  pub asked : HasAsked bytes (asked_of terminal)
 
 -- Another one stands where it stands, in all that it shows and keeps; what it notes is what changes from now on.
 pub record IsCopy (terminal copy : Terminal) : Type 0 where
   pub screen : screen_of copy ≡ as_shown (screen_of terminal)
   pub parser : copy.parser ≡ terminal.parser
   pub links : table_of copy ≡ table_of terminal
+  pub asked : asked_of copy ≡ asked_of terminal
+
+-- Nothing is told of what it was asked for any more; all else stays.
+pub record Tells (old new : Terminal) : Type 0 where
+  pub screen : screen_of new ≡ screen_of old
+  pub parser : new.parser ≡ old.parser
+  pub links : table_of new ≡ table_of old
+  pub asked : asked_of new ≡ untold (asked_of old)
 
 -- There is as much room as before for rows that leave.
 abbrev pub SameRoom : (old new : Terminal) → Type 0
@@ -71,12 +96,15 @@ SameRoom old new = nothing_yet (display_of new).history ≡ nothing_yet (display
 pub record Feeds (piece : List ℕ) (old new : Terminal) : Type 0 where
   pub stands : (first : State) (before : List ℕ) → StandsAfter first before old
       → StandsAfter first (before ++ piece) new
+  pub asked : (before : List ℕ) → IsAfter front_of old.parser before
+      → AsksOn before piece (asked_of old) (asked_of new)
   pub room : SameRoom old new
   pub since : (display_of new).shown ≡ (display_of old).shown
 
--- It is one of the same size at the beginning of a stream. Here too it forgets nothing of what can have changed.
+-- It is one of the same size at the beginning of a stream, and all that can be asked for is told as set. Here too it forgets nothing of what can have changed.
 pub record Begins (old new : Terminal) : Type 0 where
   pub stands : StandsAfter (new_state (display_of old).width (display_of old).height) [] new
+  pub asked : asked_of new ≡ record nothing_asked { changes = all_changes }
   pub room : SameRoom old new
   pub since : (display_of new).shown ≡ (display_of old).shown
 
@@ -84,6 +112,7 @@ pub record Begins (old new : Terminal) : Type 0 where
 pub record IsNew (columns rows history : ℕ) (terminal : Terminal) : Type 0 where
   pub stands : StandsAfter (new_state columns rows) [] terminal
   pub room : (display_of terminal).history ≡ Some (nothing_kept history columns)
+  pub asked : asked_of terminal ≡ nothing_asked
 
 -- the cell of a row and a column
 abbrev pub cell_of : (row column : ℕ) → Display → Cell
@@ -106,15 +135,6 @@ pub record HasKeptRow (number : ℕ) (room room_after : List CellBytes) (kept : 
   pub within : number < length kept.rows
   pub cells : map cell_in (take (length (kept_row number kept)) room_after) ≡ kept_row number kept
   pub untouched : drop (length (kept_row number kept)) room_after ≡ drop (length (kept_row number kept)) room
-
--- These are the modes: whether the cursor is shown (DECTCEM), the alternate screen shows, autowrap is on (DECAWM), a
--- character makes room for itself (IRM), lines are counted from the upper margin (DECOM), and lines are drawn.
-pub record HasModes (modes : ModeBytes) (d : Display) : Type 0 where
-  pub shown : is_set modes.is_cursor_shown ≡ d.is_visible
-  pub alternate : is_set modes.is_alternate ≡ d.is_alternate
-  pub wraps : is_set modes.wraps ≡ d.wraps
-  pub inserts : is_set modes.inserts ≡ d.inserts
-  pub origin : is_set modes.has_origin ≡ d.cursor.is_relative
 
 -- Of a row within the screen the columns from one up to another can have changed: the others have the cells that they
 -- had when that was last forgotten.

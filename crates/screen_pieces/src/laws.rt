@@ -1,4 +1,4 @@
-//! Laws of the rows that leave a screen, of copies, and of what changes.
+//! Laws of the rows that leave a screen, of copies, of what changes, and of what is told.
 ghost use Rattle.std.specs.Prelude.{◌≡◌, ◌≤◌, ℕ, List};
 ghost use Rattle.anstyle_parse.specs.Stream.Call.{Call};
 ghost use Rattle.ansi_screen.specs.After.{State, new_state};
@@ -8,7 +8,7 @@ ghost use Rattle.ansi_screen.specs.Leaving.{all_left};
 ghost use Rattle.screen_pieces.specs.declared.terminal.Terminal.{Terminal};
 ghost use Rattle.std.specs.List.{AllByRecursion};
 ghost use Rattle.screen_pieces.specs.History.{HasCells};
-ghost use Rattle.screen_pieces.specs.Terminal.{display_of, StandsAfter, IsCopy, Feeds, CanHaveChanged};
+ghost use Rattle.screen_pieces.specs.Terminal.{display_of, StandsAfter, IsCopy, Tells, Feeds, CanHaveChanged};
 
 /// Rows are whole: each that leaves a screen, whatever calls a new one has received, has a cell in each column.
 pub fn rows_are_whole()
@@ -30,4 +30,10 @@ pub fn changes_are_told()
 pub fn copies_stand()
     ensures { (first : State) (bytes : List ℕ) (terminal copy : Terminal) → IsCopy terminal copy
         → StandsAfter first bytes terminal → StandsAfter first bytes copy }
+{}
+
+/// Who is told of what was asked for leaves the screen where it stands.
+pub fn telling_stays()
+    ensures { (first : State) (bytes : List ℕ) (old new : Terminal) → Tells old new → StandsAfter first bytes old
+        → StandsAfter first bytes new }
 {}

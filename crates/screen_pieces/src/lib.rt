@@ -6,16 +6,19 @@
 
 mod cell;
 mod drawing;
+mod keys;
 pub mod laws;
 mod modes;
 mod page;
 mod reading;
 mod same;
+mod telling;
 mod terminal;
 mod text;
 mod watched;
 
 pub use ansi_style::bytes::{ColorBytes, StyleBytes};
 pub use cell::CellBytes;
+pub use keys::{KeyBytes, MouseBytes};
 pub use modes::{ModeBytes, RESERVED_MODES};
 pub use terminal::Terminal;

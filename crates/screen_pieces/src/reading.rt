@@ -24,7 +24,8 @@ fn put_text(cells: &[Cell], room: &mut [u8]) -> Result<usize, usize>
 }
 
 impl Terminal {
-    ghost use Rattle.screen_pieces.specs.Terminal.{display_of, history_of, HasCell, HasRow, HasKeptRow, HasModes};
+    ghost use Rattle.screen_pieces.specs.Terminal.{display_of, history_of, asked_of, HasCell, HasRow, HasKeptRow};
+    ghost use Rattle.screen_pieces.specs.Modes.{HasModes};
     ghost use Rattle.screen_pieces.specs.Terminal.{CanHaveChanged};
 
     /// How many columns and rows it has.
@@ -52,11 +53,11 @@ impl Terminal {
         StyleBytes::of(self.screen().cursor().style)
     }
 
-    /// Its modes.
+    /// Its modes, and what was asked for.
     pub fn modes(&self) -> ModeBytes
-        ensures { HasModes result (display_of self.now) }
+        ensures { HasModes result (display_of self.now) (asked_of self.now) }
     {
-        ModeBytes::of(self.screen())
+        ModeBytes::of(self.screen(), self.asked())
     }
 
     /// The cell of a row and a column, counted from 0; `None` outside of the screen.

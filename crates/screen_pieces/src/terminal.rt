@@ -1,8 +1,10 @@
 //! A screen with the parser that leads to it.
 ghost use Rattle.std.specs.Prelude.{◌≡◌, ◌≤◌, true, [], Some, is_some, IfOk};
 ghost use Rattle.ansi_screen.specs.After.{new_state};
+ghost use Rattle.ansi_modes.specs.Changes.{bits_of};
 
 use crate::watched::Watched;
+use ansi_modes::{Asked, Both};
 use ansi_screen::{History, MAX_COLUMNS, MAX_ROWS, MIN_COLUMNS, MIN_ROWS, Screen};
 use anstyle_parse::{Parser, Perform, Utf8Parser};
 use screen_html::LinkTable;
@@ -11,17 +13,18 @@ use std::alloc::{AllocError, Global};
 /// A screen that takes its stream in pieces.
 ///
 /// Memory is taken by [`Terminal::new`], [`Terminal::with_history`] and [`Terminal::copy`], and by [`Terminal::draw`],
-/// [`Terminal::update`] and [`Terminal::html`] while they work.
+/// [`Terminal::update`], [`Terminal::html`], [`Terminal::key`], [`Terminal::mouse`], [`Terminal::paste`] and
+/// [`Terminal::focus`] while they work.
 #[derive(Drop)]
 pub struct Terminal {
     parser: Parser,
-    watched: Watched,
+    both: Both<Watched, Asked>,
     // It keeps the last rows that leave it, of as many as it was opened with: maybe of none.
-    ghost keeps: { is_some watched.screen.display.history ≡ true },
+    ghost keeps: { is_some both.first.screen.display.history ≡ true },
 }
 
 impl Terminal {
-    ghost use Rattle.screen_pieces.specs.Terminal.{screen_of, display_of, table_of, StandsAfter, Feeds, Begins, IsNew, IsCopy};
+    ghost use Rattle.screen_pieces.specs.Terminal.{screen_of, display_of, table_of, asked_of, StandsAfter, Feeds, Begins, IsNew, IsCopy, Tells};
 
     /// A blank screen of so many columns and rows, at the beginning of a stream. `Err` means that memory is
     /// wanting.
@@ -48,11 +51,15 @@ impl Terminal {
         requires max_rows { rows ≤ MAX_ROWS }
         ensures { IfOk result (IsNew columns rows history) }
     {
+        let asked = Asked::new();
         Ok(Terminal {
             parser: Parser::<Utf8Parser>::new(),
-            watched: Watched {
-                screen: Screen::with_history(alloc, columns, rows, history)?,
-                links: LinkTable::new(alloc)?,
+            both: Both {
+                first: Watched {
+                    screen: Screen::with_history(alloc, columns, rows, history)?,
+                    links: LinkTable::new(alloc)?,
+                },
+                second: asked,
             },
         })
     }
@@ -63,28 +70,33 @@ impl Terminal {
     {
         Ok(Terminal {
             parser: self.parser.clone()?,
-            watched: Watched {
-                screen: self.screen().copy(alloc)?,
-                links: self.links().copy(alloc)?,
+            both: Both {
+                first: Watched {
+                    screen: self.screen().copy(alloc)?,
+                    links: self.links().copy(alloc)?,
+                },
+                second: self.asked().copy(),
             },
         })
     }
 
-    /// Takes the next bytes of the stream: then it shows what the definition says of all bytes so far.
+    /// Takes the next bytes of the stream: then it shows, and has been asked for, what the definitions say of all bytes
+    /// so far.
     pub fn feed(&mut self, piece: &[u8])
         ensures { Feeds piece.now self.old self.new }
     {
-        self.parser.advance_texts(&mut self.watched, piece);
+        self.parser.advance_texts(&mut self.both, piece);
     }
 
-    /// Becomes a blank screen of its size, at the beginning of a stream.
+    /// Becomes a blank screen of its size, at the beginning of a stream. All that can be asked for counts as set.
     pub fn reset(&mut self)
         ensures { Begins self.old self.new }
     {
         // ESC c, which makes any screen a new one
-        self.watched.screen.esc_dispatch(&[], false, b'c');
-        self.watched.screen.clear_history();
-        self.watched.links.clear();
+        self.both.first.screen.esc_dispatch(&[], false, b'c');
+        self.both.first.screen.clear_history();
+        self.both.first.links.clear();
+        self.both.second.restart();
         self.parser = Parser::<Utf8Parser>::new();
     }
 
@@ -93,14 +105,14 @@ impl Terminal {
     pub fn forget(&mut self)
         ensures { IsCopy self.old self.new }
     {
-        self.watched.screen.forget();
+        self.both.first.screen.forget();
     }
 
     /// The screen.
     pub fn screen(&self) -> &Screen
         ensures { result.now ≡ screen_of self.now }
     {
-        &self.watched.screen
+        &self.both.first.screen
     }
 
     /// The rows that left the screen, of which it keeps the last.
@@ -114,6 +126,22 @@ impl Terminal {
     pub fn links(&self) -> &LinkTable
         ensures { result.now ≡ table_of self.now }
     {
-        &self.watched.links
+        &self.both.first.links
+    }
+
+    /// What the stream asked for beside the screen.
+    pub fn asked(&self) -> &Asked
+        ensures { result.now ≡ asked_of self.now }
+    {
+        &self.both.second
+    }
+
+    /// What was set since the last such call, as the bits of [`Changes`](ansi_modes::Changes). It is forgotten, and all
+    /// else stays.
+    pub fn take_asked(&mut self) -> u16
+        ensures bits { result ≡ bits_of (asked_of self.old).changes }
+        ensures told { Tells self.old self.new }
+    {
+        self.both.second.take_changes().bits()
     }
 }

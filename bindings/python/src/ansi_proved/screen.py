@@ -16,14 +16,36 @@ CELL_BYTES = 12  # that a cell's text has at most, with its marks
 KEPT = 16384  # cells that are kept, to give them again
 KINDS = ["default", "named", "bright", "indexed", "direct"]
 UNDERLINES = ["", "single", "double", "curly", "dotted", "dashed"]
+MOUSE = ["", "presses", "buttons", "drags", "motion"]
+ENCODINGS = ["", "sgr", "urxvt", "pixels"]
+SHAPES = ["", "block", "underline", "bar"]
+ASKED = ["keys", "mouse", "focus", "paste", "synchronized", "reverse", "cursor", "title", "icon", "folder", "progress", "bell", "colors"]
+MOVES = ["up", "down", "right", "left", "home", "end", "insert", "delete", "page_up", "page_down"]
+PAD = [*map(str, range(10)), "decimal", "divide", "multiply", "subtract", "add", "separator", "equal", "enter", "begin"]
+KEYS = {"enter": 1, "tab": 2, "backspace": 3, "escape": 4, **{name: 11 + it for it, name in enumerate(MOVES)}}
+KEYS.update({"pad_" + name: 40 + it for it, name in enumerate(PAD)})
+KEYS.update({"pad_" + name: 61 + it for it, name in enumerate(MOVES)})
+KEYS.update({"f%d" % it: 100 + it for it in range(1, 25)})
+HELD = ["shift", "alt", "ctrl", "super", "hyper", "meta", "caps_lock", "num_lock"]
+EVENTS = ["press", "repeat", "release"]
+ACTIONS = ["press", "release", "move"]
+BUTTONS = ["", "left", "middle", "right", "wheel_up", "wheel_down", "wheel_left", "wheel_right", "back", "forward"]
 ATTRIBUTES = ["bold", "dim", "italic", "blink", "reverse", "hidden", "struck_out", "overlined"]
 
 Cursor = namedtuple("Cursor", "row column shown")
 Cursor.__doc__ = "Where the cursor is, counted from 0. Its column is that of the screen's width where a wrap is pending."
 Change = namedtuple("Change", "row first past")
 Change.__doc__ = "Columns of a row that can have changed: from `first` up to `past`, which is not among them."
-Modes = namedtuple("Modes", "cursor_shown alternate_screen autowrap insert origin")
-Modes.__doc__ = "Modes, each True where it is on."
+Modes = namedtuple(
+    "Modes",
+    "cursor_shown alternate_screen autowrap insert origin cursor_keys key_flags mouse mouse_encoding focus paste synchronized reverse "
+    "cursor_shape cursor_blinks",
+)
+Modes.__doc__ = """Modes, and what a program asked for, each True where it is on, but for these.
+
+key_flags: the number of the flags of kitty's keyboard protocol. mouse: what is told of it, as MOUSE has it; mouse_encoding: how,
+as ENCODINGS has it, "" in three bytes. cursor_shape: as SHAPES has it, "" the terminal's own.
+"""
 Color = namedtuple("Color", "kind values")
 Color.__doc__ = """A colour: its kind, and its numbers.
 
@@ -56,7 +78,17 @@ class CellBytes(ctypes.Structure):
 
 
 class ModeBytes(ctypes.Structure):
-    _fields_ = [(name, ctypes.c_ubyte) for name in Modes._fields] + [("reserved", ctypes.c_ubyte * 11)]
+    _fields_ = [(name, ctypes.c_ubyte) for name in Modes._fields] + [("reserved", ctypes.c_ubyte)]
+
+
+class KeyBytes(ctypes.Structure):
+    _fields_ = [("character", ctypes.c_uint32), ("shifted", ctypes.c_uint32)]
+    _fields_ += [(name, ctypes.c_ubyte) for name in ("key", "modifiers", "event", "reserved")]
+
+
+class MouseBytes(ctypes.Structure):
+    _fields_ = [(name, ctypes.c_uint16) for name in ("column", "row", "x", "y")]
+    _fields_ += [(name, ctypes.c_ubyte) for name in ("action", "button", "modifiers", "reserved")]
 
 
 class Options(ctypes.Structure):
@@ -94,6 +126,11 @@ _draw, _update = _call("ansi_screen_draw", *_WRITES), _call("ansi_screen_update"
 _link, _html = _call("ansi_screen_link", ctypes.c_uint32, *_WRITES), _call("ansi_screen_html", ctypes.c_ubyte, *_WRITES)
 _history, _history_row = _call("ansi_screen_history", _AT, _AT), _call("ansi_screen_history_row", _SIZE, _AT, _SIZE)
 _history_text = _call("ansi_screen_history_text", _SIZE, *_WRITES)
+_asked, _title = _call("ansi_screen_asked", _AT), _call("ansi_screen_title", *_WRITES)
+_key, _mouse = _call("ansi_screen_key", _AT, *_WRITES), _call("ansi_screen_mouse", _AT, *_WRITES)
+_paste, _focus = _call("ansi_screen_paste", _AT, _SIZE, *_WRITES), _call("ansi_screen_focus", ctypes.c_ubyte, *_WRITES)
+# what a byte of modes is, where it is not True or False
+_TOLD = {"key_flags": int, "mouse": MOUSE.__getitem__, "mouse_encoding": ENCODINGS.__getitem__, "cursor_shape": SHAPES.__getitem__}
 
 
 def _color_of(color):
@@ -147,6 +184,35 @@ def _number(value, what):
         return index(value)
     except TypeError:
         raise TypeError("%s is an int, and not %s" % (what, type(value).__name__)) from None
+
+
+def _place_in(names, name, what):
+    """The place of a name among those that there are, or a ValueError in words."""
+    try:
+        return names.index(name)
+    except ValueError:
+        raise ValueError("%s is one of %s, and not %r" % (what, ", ".join(map(repr, names)), name)) from None
+
+
+def _modifiers_of(held):
+    """The number of what is held beside a key, by names."""
+    for name in held:
+        if name not in HELD:
+            raise TypeError("there is no modifier %r, but %s" % (name, ", ".join(HELD)))
+    return sum(1 << it for it, name in enumerate(HELD) if held.get(name))
+
+
+def _key_of(name, shifted, event, held):
+    """The bytes of a key."""
+    bytes_of_key = KeyBytes(modifiers=_modifiers_of(held), event=1 + _place_in(EVENTS, event, "what happens to a key"))
+    if not isinstance(name, str) or not (len(name) == 1 or name in KEYS):
+        raise ValueError("a key is a character or one of %s, and not %r" % (", ".join(KEYS), name))
+    if len(name) > 1:
+        bytes_of_key.key = KEYS[name]
+        return bytes_of_key
+    other = name.upper() if shifted is None else shifted
+    bytes_of_key.character, bytes_of_key.shifted = ord(name), ord(other) if len(other) == 1 and other != name else 0
+    return bytes_of_key
 
 
 def _decoded(written):
@@ -254,8 +320,7 @@ class Screen:
             screen.text()  # "one\ntwo\n"
 
     It takes what a terminal takes: CR LF between lines. A byte that belongs to no character leaves nothing. A with block closes it,
-    as `close` does, and so does its end. It can't be resized, has no title, bell or shape of the cursor, does not tell what a program asks
-    of keys and mouse, and sends no answers to the host: `events` of the same bytes tell what asks for these.
+    as `close` does, and so does its end. It can't be resized, and sends no answers to the host: `events` of the same bytes tell what asks for these.
 
     history: how many of the last rows that leave it are kept. Each takes some 40 bytes a column, from the beginning on.
 
@@ -477,11 +542,51 @@ class Screen:
 
     @property
     def modes(self):
-        """Its modes."""
+        """Its modes, and what a program asked of keys, mouse and cursor."""
         found = ModeBytes()
         with self._lock:
             self._held(_modes(self._at, ctypes.addressof(found)))
-        return Modes(*(bool(getattr(found, name)) for name in Modes._fields))
+        return Modes(*(_TOLD.get(name, bool)(getattr(found, name)) for name in Modes._fields))
+
+    @property
+    def title(self):
+        """The title of the window: at most 1,024 bytes of UTF-8, without controls."""
+        return self._text_by(_title)
+
+    def asked(self):
+        """What a program asked for since this was called before, as a set of names of ASKED: what was set to what it was is told too."""
+        found = ctypes.c_uint16()
+        with self._lock:
+            self._held(_asked(self._at, ctypes.addressof(found)))
+        return {name for it, name in enumerate(ASKED) if found.value >> it & 1}
+
+    def key(self, name, *, shifted=None, event="press", **held):
+        """The bytes that a program reads of a key, by what it asked for: b"" where that is nothing.
+
+        name: the character that the key types without Shift, or one of KEYS, as "up", "f1" or "pad_5". shifted: what it types with
+        Shift (of a letter that is known). event: "press", "repeat" or "release". What is held beside it is named as in HELD:
+        `key("up", ctrl=True)`.
+        """
+        given = _key_of(name, shifted, event, held)
+        return self._made_by(bytes, _key, ctypes.addressof(given))
+
+    def mouse(self, action, column, row, *, button="", x=0, y=0, **held):
+        """The same of the mouse: "press", "release" or "move" at a column and a row, of a button or of the wheel as BUTTONS names it,
+        or of none. x, y: the pixel, for programs that ask for it (1016)."""
+        given = MouseBytes(column=column, row=row, x=x, y=y, modifiers=_modifiers_of(held))
+        given.action, given.button = 1 + _place_in(ACTIONS, action, "what the mouse does"), _place_in(BUTTONS, button, "a button")
+        return self._made_by(bytes, _mouse, ctypes.addressof(given))
+
+    def paste(self, text):
+        """The same of a str that is pasted: without controls but TAB, LF and CR, and in brackets where a program asked for them."""
+        if not isinstance(text, str):
+            raise TypeError("what is pasted is a str, and not " + type(text).__name__)
+        given = text.encode()
+        return self._made_by(bytes, _paste, given, len(given))
+
+    def focus(self, gained=True):
+        """The same of the focus, which the terminal has now, or has no longer."""
+        return self._made_by(bytes, _focus, 1 if gained else 0)
 
     def link(self, number):
         """The URI of a link, by the number that a cell has, as a str; "" where it is none that is kept or shown."""
@@ -518,7 +623,7 @@ class Screen:
         return max(self, other, key=id)._lock
 
     def __eq__(self, other):
-        """Whether both show the same: cells, cursor, the style of what comes next and modes.
+        """Whether both show the same: cells, cursor, the style of what comes next and modes, but for what was asked for.
 
         Cells have links and say which rows go on, which `draw` and `update` leave out: a screen that was fed what these give is not
         equal to one that has a link or a row that goes on.

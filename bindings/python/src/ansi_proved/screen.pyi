@@ -1,12 +1,17 @@
 """The types of this module, for type checkers and editors."""
 
 from types import TracebackType
-from typing import ClassVar, List, Literal, NamedTuple, Optional, Sequence, Tuple, Type, Union, overload
+from typing import ClassVar, List, Literal, NamedTuple, Optional, Sequence, Set, Tuple, Type, Union, overload
 
 _Bytes = Union[bytes, bytearray, memoryview]
 _Kind = Literal["default", "named", "bright", "indexed", "direct"]
 _Underline = Literal["", "single", "double", "curly", "dotted", "dashed"]
 _Styling = Literal["both", "light", "dark", "classes"]
+_Mouse = Literal["", "presses", "buttons", "drags", "motion"]
+_Encoding = Literal["", "sgr", "urxvt", "pixels"]
+_Shape = Literal["", "block", "underline", "bar"]
+_Event = Literal["press", "repeat", "release"]
+_Action = Literal["press", "release", "move"]
 
 class Cursor(NamedTuple):
     row: int
@@ -24,6 +29,16 @@ class Modes(NamedTuple):
     autowrap: bool
     insert: bool
     origin: bool
+    cursor_keys: bool
+    key_flags: int
+    mouse: _Mouse
+    mouse_encoding: _Encoding
+    focus: bool
+    paste: bool
+    synchronized: bool
+    reverse: bool
+    cursor_shape: _Shape
+    cursor_blinks: bool
 
 class Color(NamedTuple):
     kind: _Kind
@@ -90,6 +105,13 @@ class Screen:
     def style(self) -> Style: ...
     @property
     def modes(self) -> Modes: ...
+    @property
+    def title(self) -> str: ...
+    def asked(self) -> Set[str]: ...
+    def key(self, name: str, *, shifted: Optional[str] = None, event: _Event = "press", **held: bool) -> bytes: ...
+    def mouse(self, action: _Action, column: int, row: int, *, button: str = "", x: int = 0, y: int = 0, **held: bool) -> bytes: ...
+    def paste(self, text: str) -> bytes: ...
+    def focus(self, gained: bool = True) -> bytes: ...
     def copy(self) -> Screen: ...
     def __copy__(self) -> Screen: ...
     def __deepcopy__(self, _: object) -> Screen: ...

@@ -2,6 +2,7 @@
 use Rattle.std.proofs.Common.{[], ◌∷◌, ap, ◌∙◌}
 use Rattle.anstyle_parse.proofs.Canonical.Items.{AreCalls-nil}
 use Rattle.ansi_screen.proofs.LawLemmas.{after-reset}
+use Rattle.ansi_modes.specs.Laws.{untold}
 use Rattle.ansi_screen.specs.After.{State, new_state}
 use Rattle.ansi_screen.specs.Laws.{reset}
 use Rattle.ansi_screen.specs.Leaving.{unkept, with_room_alone}
@@ -12,13 +13,13 @@ pub invariant_of-self : goal.invariant_of-self
 invariant_of-self c = record {
   keeps = some-stays _ _
       (cleared-room _ c.clear_history.new.self c.clear_history.ensures
-      ∙ room-stays (reset ∷ []) c.args.self.now.watched.screen _ c.esc_dispatch.ensures)
+      ∙ room-stays (reset ∷ []) c.args.self.now.both.first.screen _ c.esc_dispatch.ensures)
       c.args.self.now.keeps;
 }
 
 pub returns : goal.returns
 returns c =
-    let old = c.args.self.now.watched.screen in
+    let old = c.args.self.now.both.first.screen in
     let new = c.clear_history.new.self in
     let led = c.clear_history.ensures ∙ ap with_room_alone (c.esc_dispatch.ensures ∙ after-reset old) in record {
       stands = record {
@@ -30,7 +31,9 @@ returns c =
         parser = c.new-self.ensures.stands;
         history = ([], AreCalls-nil, cleared-left _ new c.clear_history.ensures);
         links = ([], AreCalls-nil, c.clear.ensures);
+        asked = ([], AreCalls-nil, ap untold c.restart.ensures);
       };
+      asked = c.restart.ensures;
       room = cleared-room _ new c.clear_history.ensures ∙ room-stays (reset ∷ []) old _ c.esc_dispatch.ensures;
       since = ap (λ (s : State). s.display.shown) led;
     }

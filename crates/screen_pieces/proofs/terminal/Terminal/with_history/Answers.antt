@@ -1,6 +1,7 @@
 -- No row has left yet, and no link has begun.
 use Rattle.std.proofs.Common.{[], ap, sym, ◌∙◌}
 use Rattle.anstyle_parse.proofs.Canonical.Items.{AreCalls-nil}
+use Rattle.ansi_modes.specs.Laws.{untold}
 use Rattle.ansi_screen.specs.After.{State, new_state}
 use Rattle.ansi_screen.specs.Leaving.{unkept}
 use Rattle.ansi_screen.proofs.LeavingTable.{with_left-none}
@@ -12,12 +13,15 @@ pub returns : goal.returns
 returns c =
     let screen = c.in_ok-with_history.field-0 in
     let is = c.in_ok-with_history.ensures in
+    let asked = c.new-asked.ensures in
     let room = ap (λ (s : State). s.display.history) is in record {
       stands = record {
         shows = ([], AreCalls-nil, with-own (unkept screen) (new_state c.args.columns c.args.rows) (new_state c.args.columns c.args.rows).display.shown (ap unkept is));
         parser = c.new.ensures.stands;
         history = ([], AreCalls-nil, room ∙ (sym (ap nothing_yet room) ∙ sym (with_left-none (nothing_yet screen.display.history))));
         links = ([], AreCalls-nil, c.in_ok-new.ensures);
+        asked = ([], AreCalls-nil, ap untold asked);
       };
       room = room;
+      asked = asked;
     }

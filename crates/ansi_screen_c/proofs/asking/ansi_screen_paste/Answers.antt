@@ -1,0 +1,17 @@
+-- What was held is read.
+use Rattle.screen_pieces.specs.Telling.{paste_told}
+use Rattle.ansi_screen_c.specs.Calls.{Holds, ReadsOf, IsRefusedOf}
+use Rattle.ansi_screen_c.proofs.ToldLemmas.{is-told, is-refused}
+use Rattle.ansi_screen_c.proofs.asking.ansi_screen_paste.Goals as goal
+
+pub returns-in-Some-clause-text : goal.returns-in-Some-clause-text
+returns-in-Some-clause-text c =
+    is-told (λ n was. Holds (ReadsOf (paste_told c.args.text.now) c.args.room.now c.paste-answer.new.room n) was) c.paste-answer.result c.in-Some.held.value
+    c.deref.result.now c.args.screen.now.value c.in-Some.ensures.taken c.deref.ensures c.told.result c.told.new.written
+    c.told.ensures.ok c.paste-answer.ensures.text
+
+pub returns-in-Some-clause-refused : goal.returns-in-Some-clause-refused
+returns-in-Some-clause-refused c =
+    is-refused (λ n was. IsRefusedOf (paste_told c.args.text.now) c.args.room.now n was) c.paste-answer.result c.in-Some.held.value
+    c.deref.result.now c.args.screen.now.value c.in-Some.ensures.taken c.deref.ensures c.told.result c.told.new.written
+    c.told.ensures.err c.paste-answer.ensures.refused

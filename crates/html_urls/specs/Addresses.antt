@@ -1,9 +1,9 @@
 -- Addresses in a text, and what a link to one has.
 --
--- Sources: RFC 3986, 2 (the characters of a URI), 2.1 (an escaped byte) and 3.1 (the characters of a scheme, which is the
--- same in letters of any case); RFC 3987, 2.2 and 4.1 (the characters of an IRI beyond ASCII) and 3.1 (the URI of an
--- IRI); GitHub Flavored Markdown, 6.9 ("Autolinks (extension)"), for what stands after an address: marks at its end, what
--- looks like an entity, and brackets that it does not open.
+-- Sources: RFC 3986, 2 (the characters of a URI), 2.1 (an escaped byte) and 3.1 (the characters of a scheme, which is
+-- the same in letters of any case); RFC 3987, 2.2 and 4.1 (the characters of an IRI beyond ASCII) and 3.1 (the URI of
+-- an IRI); GitHub Flavored Markdown, 6.9 ("Autolinks (extension)"), for what stands after an address: marks at its end,
+-- what looks like an entity, and brackets that it does not open.
 use Rattle.std.specs.Prelude.{◌≡◌, ◌<◌, ◌≤◌, ◌+◌, ◌/◌, ◌%◌, ℕ, zero, suc, Bool, true, false, not, ◌||◌, ◌&&◌, ◌⊎◌, nat_le, nat_lt, nat_eq, ◌==◌, List, [], ◌∷◌, ◌++◌, codes, length, map, take, drop, count_by, encode_utf8, ⊤, if◌then◌else◌}
 use Rattle.std.specs.Char.{to_ascii_lowercase, is_ascii_alphanumeric}
 use Rattle.std.specs.List.{flat_map, starts_with}

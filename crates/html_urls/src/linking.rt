@@ -19,10 +19,10 @@ use anstyle_parse::{Params, Perform, PerformText};
 /// Hands all calls on to a performer, and makes links (OSC 8) of the addresses in what is printed.
 ///
 /// An address begins with `https://`, `http://` or `mailto:`, in letters of any case, where no letter, digit, `+`, `-`
-/// or `.` stands right before it, and goes on with the characters of a URI or an IRI. Marks at its end, brackets that it
-/// does not open, and what looks like an entity are no part of it. Its link has at most 1,022 bytes, three for each byte
-/// of a character beyond ASCII, and twelve `;`. Text in a link of the stream's own stays as it is. Any call but a print
-/// ends an address. What may become one is held back until it ends.
+/// or `.` stands right before it, and goes on with the characters of a URI or an IRI. Marks at its end, brackets that
+/// it does not open, and what looks like an entity are no part of it. Its link has at most 1,022 bytes, three for each
+/// byte of a character beyond ASCII, and twelve `;`. Text in a link of the stream's own stays as it is. Any call but a
+/// print ends an address. What may become one is held back until it ends.
 #[derive(Drop)]
 pub struct Linking<P> {
     pub(crate) performer: P,

@@ -55,7 +55,7 @@ pub enum Answer {
     SecondaryAttributes,
     /// DA3: its unit has no number.
     TertiaryAttributes,
-    /// XTVERSION: the name and version of this library.
+    /// XTVERSION: the name of this library, and 1.
     Version,
     /// DECRPM: what a mode of ECMA-48 is.
     Mode {

@@ -1,0 +1,39 @@
+//! Answers that nobody takes; the laws.
+use super::assert_same;
+use ansi_answers::laws::{blind, form, selects};
+use ansi_answers::{Answer, MAX_ANSWER, MAX_WAITING, Waiting};
+use ansi_style::Style;
+use std::process::Abort;
+
+fn flags(number: u16) -> Answer {
+    Answer::KeyFlags(number)
+}
+
+/// The oldest, and whether one was lost.
+fn assert_waits(rt: &impl Abort, waiting: &mut Waiting, oldest: Option<Answer>, lost: bool) {
+    assert_same(rt, &waiting.take(), &oldest);
+    assert_same(rt, &waiting.take_lost(), &lost);
+}
+
+// Laws are functions that do nothing.
+#[test]
+fn laws(_rt: HostRuntime) {
+    form(Answer::NoSetting);
+    selects(Style::default());
+    blind();
+}
+
+#[test]
+fn oldest_lost(rt: HostRuntime) {
+    let mut waiting = Waiting::new();
+    assert_waits(&rt, &mut waiting, None, false);
+    waiting.keep(None);
+    for number in 0..66 {
+        waiting.keep(Some(flags(number)));
+    }
+    assert_same(&rt, &waiting.answers().len(), &64);
+    assert_waits(&rt, &mut waiting, Some(flags(2)), true);
+    assert_waits(&rt, &mut waiting, Some(flags(3)), false);
+    assert_same(&rt, &(MAX_ANSWER * MAX_WAITING), &4096);
+    drop(waiting);
+}

@@ -2,6 +2,7 @@
 mod commands;
 mod sequences;
 mod settings;
+mod shown;
 mod waiting;
 
 ghost use Rattle.std.specs.Prelude.{⊤};

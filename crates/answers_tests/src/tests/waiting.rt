@@ -1,6 +1,8 @@
-//! Answers that nobody takes.
+//! Answers that nobody takes; the laws.
 use super::assert_same;
+use ansi_answers::laws::{blind, form, selects};
 use ansi_answers::{Answer, MAX_ANSWER, MAX_WAITING, Waiting};
+use ansi_style::Style;
 use std::process::Abort;
 
 fn flags(number: u16) -> Answer {
@@ -11,6 +13,14 @@ fn flags(number: u16) -> Answer {
 fn assert_waits(rt: &impl Abort, waiting: &mut Waiting, oldest: Option<Answer>, lost: bool) {
     assert_same(rt, &waiting.take(), &oldest);
     assert_same(rt, &waiting.take_lost(), &lost);
+}
+
+// Laws are functions that do nothing.
+#[test]
+fn laws(_rt: HostRuntime) {
+    form(Answer::NoSetting);
+    selects(Style::default());
+    blind();
 }
 
 #[test]

@@ -1,0 +1,4 @@
+pub mod Facts
+pub mod Answering
+pub mod AnsweringProof
+pub mod Laws

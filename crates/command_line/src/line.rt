@@ -1,5 +1,5 @@
 //! The words of a line: which are options, and which name files.
-ghost use Rattle.std.specs.Prelude.{◌≡◌, ◌++◌, ◌∷◌, [], map, string_bytes, OnOk, IfOk};
+ghost use Rattle.std.specs.Prelude.{◌≡◌, ◌<◌, ◌++◌, ◌∷◌, [], map, string_bytes, OnOk, IfOk};
 ghost use Rattle.std.specs.List.{list_all};
 ghost use Rattle.command_line.specs.Options.{texts};
 ghost use Rattle.command_line.specs.Line.{is_digit, is_number, is_size, is_size_by, may_have_size, is_file, place_behind, place_after, options_said, files_said, options_of, files_of, options_in, files_in, joined, before_value};

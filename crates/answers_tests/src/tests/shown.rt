@@ -2,8 +2,8 @@
 use super::{Row, assert_answers};
 use ansi_answers::Theme;
 use ansi_screen::Screen;
-use screen_answers::Answering;
 use screen_answers::laws::any_pieces;
+use screen_answers::{Answering, facts_of};
 use std::alloc::AllocGlobal;
 use std::process::Abort;
 
@@ -12,6 +12,7 @@ fn assert_row(rt: &(impl Abort + AllocGlobal), screen: Screen, bytes: &[u8], wan
     let (front, back) = bytes.split_at(bytes.len() / 2);
     any_pieces(&mut answering, &[front, back]);
     assert_answers(rt, answering.waiting.answers(), wanted);
+    assert!(rt; facts_of(&answering.screen).columns == 20);
     drop(answering);
 }
 

@@ -1,7 +1,7 @@
 //! Answers that nobody takes; the laws.
 use super::assert_same;
 use ansi_answers::laws::{blind, form, selects};
-use ansi_answers::{Answer, MAX_ANSWER, MAX_WAITING, Waiting};
+use ansi_answers::{Answer, MAX_ANSWER, MAX_WAITING, ModeState, Paint, Waiting};
 use ansi_style::Style;
 use std::process::Abort;
 
@@ -35,5 +35,22 @@ fn oldest_lost(rt: HostRuntime) {
     assert_waits(&rt, &mut waiting, Some(flags(2)), true);
     assert_waits(&rt, &mut waiting, Some(flags(3)), false);
     assert_same(&rt, &(MAX_ANSWER * MAX_WAITING), &4096);
+    drop(waiting);
+}
+
+// By what a caller tells answers apart.
+#[test]
+fn told_apart(rt: HostRuntime) {
+    let mut waiting = Waiting::new();
+    waiting.keep(Some(Answer::Mode {
+        number: 4,
+        state: ModeState::Reset,
+    }));
+    let is_reset = match waiting.take() {
+        Some(Answer::Mode { state, .. }) => state == ModeState::Reset,
+        _ => false,
+    };
+    assert!(rt; is_reset);
+    assert!(rt; Paint::Foreground != Paint::Background);
     drop(waiting);
 }

@@ -99,11 +99,11 @@ PHRASES = {
         *STATUSES, *OF_SHOWN, *CUT_OFF, "del (7f) and " + C1, "the default, named, 256 and red", "links (osc 8) whose uri", "was not cut at {MAX_OSC_RAW} bytes or {MAX_OSC_PARTS} parts",
         "hyphens, {MOST_OF_A_TAG} at most", "of the colours 16 to 255", 'data-line="10"', "of more than {ADDRESS} bytes", "the link (osc 8) in which", "the last {MOST_KEPT} that began",
         'in blocks of {LINES_A_BLOCK} lines each, <span data-lines="{LINES_A_BLOCK}">', "(css containment, 4)", "links (osc 8) to other schemes",
-        "each byte of text earns {BYTE_EARNS} of them, and each line feed {FEED_EARNS}",
+        "each byte of text earns {BYTE_EARNS} of them, and each line feed {FEED_EARNS}", "with {FEED_EARNS} for each line feed so far",
     ],
     "man/ansi2screen.1": [
         STATUSES[0], STATUSES[3], "was said. {FAILED} the file", "shown. {MISUSED} an option", "to show sgr {hidden}", "a character that is broken is u+fffd", "--size 80x24",
-        "from {MIN_COLUMNS}x{MIN_ROWS} to {MAX_COLUMNS}x{MAX_ROWS}, also with an x for the x. where", "and else {COLUMNS}x{ROWS}.", 'columns="120" lines="40"', "links (osc 8) and whether",
+        "from {MIN_COLUMNS}x{MIN_ROWS} to {MAX_COLUMNS}x{MAX_ROWS}. where", "and else {COLUMNS}x{ROWS}.", 'columns="120" lines="40"', "links (osc 8) and whether",
         "each read, of {PIECE} bytes at most", "looked at, {MOST_FRONT} bytes",
     ],
     "man/ansi2text.1": [

@@ -355,6 +355,13 @@ bool ansi_screen_focus(ansi_screen *screen, unsigned char gained, unsigned char 
 /* Writes how many rows are kept, and how many have left since the screen was opened or reset. */
 bool ansi_screen_history(ansi_screen *screen, size_t *kept, size_t *left);
 
+/* As ansi_screen_feed, but takes no more bytes from the front of the piece than surely find room for the rows that leave by
+ * them, and writes how many: so no row is lost that left after the first `seen`, which is how many had left when they were
+ * read last. A byte makes twice as many rows leave as the screen has, at most. Where bytes are left, read the rows, and
+ * call again with as many `seen` as have left now: then one byte at least is taken, if so many rows are kept. */
+bool ansi_screen_feed_keeping(ansi_screen *screen, const unsigned char *piece, size_t count, size_t seen,
+                              size_t *taken);
+
 /* As ansi_screen_row, of a row that is kept: the oldest has the number 0, and the one that left last `kept` - 1. */
 bool ansi_screen_history_row(ansi_screen *screen, size_t number, ansi_cell *cells, size_t count);
 

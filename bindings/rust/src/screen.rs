@@ -189,6 +189,14 @@ unsafe extern "C" {
 
     fn ansi_screen_history(screen: *mut Handle, kept: *mut usize, left: *mut usize) -> bool;
 
+    fn ansi_screen_feed_keeping(
+        screen: *mut Handle,
+        piece: *const u8,
+        count: usize,
+        seen: usize,
+        taken: *mut usize,
+    ) -> bool;
+
     fn ansi_screen_history_row(
         screen: *mut Handle,
         number: usize,
@@ -444,6 +452,23 @@ impl Screen {
     /// Takes the next bytes of the stream, cut anywhere.
     pub fn feed(&mut self, piece: &[u8]) {
         unsafe { ansi_screen_feed(self.handle(), piece.as_ptr(), piece.len()) };
+    }
+
+    /// Takes bytes from the front of the piece, as many as surely make no row leave that finds no room in the history beside
+    /// those that left after the first `seen`, and tells how many: so no row is lost that was not seen. `seen` is what
+    /// [`Screen::left_count`] was when they were read last. A byte makes twice as many rows leave as the screen has, at most.
+    pub fn feed_keeping(&mut self, piece: &[u8], seen: usize) -> usize {
+        let mut taken = 0;
+        unsafe {
+            ansi_screen_feed_keeping(
+                self.handle(),
+                piece.as_ptr(),
+                piece.len(),
+                seen,
+                &raw mut taken,
+            )
+        };
+        taken
     }
 
     /// Makes it a blank screen of its size, at the beginning of a stream.

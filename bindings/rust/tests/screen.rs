@@ -140,6 +140,11 @@ fn rows_that_left_are_kept() {
     assert!(row.len() == 10 && row[0].character == '2' && row[0].style.bold);
     assert!(screen.history_row(2).next().is_none());
     assert_eq!(screen.each_row().map(|row| row[0].character).collect::<String>(), "456");
+    // (a byte makes six rows leave at most, and two find room)
+    assert_eq!((screen.feed_keeping(b"\n", 3), screen.left_count()), (0, 3));
+    let mut all = Screen::with_history(10, 3, 13).unwrap();
+    let taken = all.feed_keeping(b"1\n2\n3\n4\n", 0);
+    assert_eq!((taken, all.feed_keeping(b"\n\n\n", 0), all.left_count()), (2, 2, 1));
     let none = shown(10, 3, "1\n2\n3\n4\n");
     assert_eq!((none.history_count(), none.left_count(), none.history_text(0).as_str()), (0, 2, ""));
 }

@@ -2,8 +2,9 @@
 ghost use Rattle.std.specs.Prelude.{◌≡◌, ◌<◌, ◌⊎◌, None, length};
 ghost use Rattle.std.specs.Bool.{OnTrue, OnFalse};
 ghost use Rattle.screen_pieces.specs.History.{kept_row, text_of_kept, LacksKept};
+ghost use Rattle.screen_pieces.specs.Keeping.{FeedsKeeping};
 ghost use Rattle.screen_pieces.specs.Terminal.{HasKeptRow, history_of};
-ghost use Rattle.ansi_screen_c.specs.Calls.{OpensWith, Holds, IsNoneOr, ReadsKept, IsRefusedKept};
+ghost use Rattle.ansi_screen_c.specs.Calls.{OpensWith, Holds, Both, IsNoneOr, ReadsKept, IsRefusedKept};
 
 use crate::handle::Handle;
 use crate::{boxed, told};
@@ -38,6 +39,33 @@ pub extern "C" fn ansi_screen_open_with(
     match boxed(alloc, columns, rows, options.history) {
         None => false,
         Some(held) => {
+            screen.put(held);
+            true
+        }
+    }
+}
+
+/// Takes bytes from the front of the piece, as many as surely make no row leave that finds no room beside those that left
+/// after the first `seen`, and writes how many these are. It answers false, with the number 0, where no screen is held.
+#[unsafe(no_mangle)]
+pub extern "C" fn ansi_screen_feed_keeping(
+    alloc: Global,
+    screen: &mut Handle,
+    piece: &[u8],
+    seen: usize,
+    taken: &mut usize,
+) -> bool
+    ensures fed { OnTrue result (Both (FeedsKeeping piece.now seen taken.new) screen.old.value screen.new.value) }
+    ensures refused { OnFalse result ((screen.old.value ≡ None) × (screen.new.value ≡ None)) }
+    ensures none { OnFalse result (taken.new ≡ 0) }
+{
+    match screen.take(alloc) {
+        None => {
+            *taken = 0;
+            false
+        }
+        Some(mut held) => {
+            *taken = held.feed_keeping(piece, seen);
             screen.put(held);
             true
         }

@@ -1,4 +1,5 @@
 pub mod FeedLemmas
+pub mod KeepingLemmas
 pub mod CopyLemmas
 pub mod SendLemmas
 pub mod TextLemmas

@@ -2,6 +2,7 @@ pub mod Cells
 pub mod Text
 pub mod Drawing
 pub mod History
+pub mod Keeping
 pub mod Watched
 pub mod WatchedProof
 pub mod Terminal

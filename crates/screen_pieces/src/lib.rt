@@ -6,6 +6,7 @@
 
 mod cell;
 mod drawing;
+mod keeping;
 mod keys;
 pub mod laws;
 mod modes;

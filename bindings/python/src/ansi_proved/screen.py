@@ -126,6 +126,7 @@ _draw, _update = _call("ansi_screen_draw", *_WRITES), _call("ansi_screen_update"
 _link, _html = _call("ansi_screen_link", ctypes.c_uint32, *_WRITES), _call("ansi_screen_html", ctypes.c_ubyte, *_WRITES)
 _history, _history_row = _call("ansi_screen_history", _AT, _AT), _call("ansi_screen_history_row", _SIZE, _AT, _SIZE)
 _history_text = _call("ansi_screen_history_text", _SIZE, *_WRITES)
+_feed_keeping = _call("ansi_screen_feed_keeping", _AT, _SIZE, _SIZE, _AT)
 _asked, _title = _call("ansi_screen_asked", _AT), _call("ansi_screen_title", *_WRITES)
 _key, _mouse = _call("ansi_screen_key", _AT, *_WRITES), _call("ansi_screen_mouse", _AT, *_WRITES)
 _paste, _focus = _call("ansi_screen_paste", _AT, _SIZE, *_WRITES), _call("ansi_screen_focus", ctypes.c_ubyte, *_WRITES)
@@ -373,6 +374,19 @@ class Screen:
         whole = bytes_of(piece)
         with self._lock:
             self._held(_feed(self._at, whole, len(whole)))
+
+    def feed_keeping(self, piece, seen):
+        """Takes bytes (or a str, as its UTF-8) from the front of a piece, as many as surely make no row leave that finds no room in
+        the history beside those that left after the first `seen`, and gives how many: so no row is lost that was not seen.
+
+        `seen` is what `history.left` was when the rows were read last. A byte makes twice as many rows leave as the screen has, at most.
+        """
+        whole, taken = bytes_of(piece), _SIZE()
+        if not 0 <= _number(seen, "how many rows were seen") < 2 ** (8 * ctypes.sizeof(_SIZE)):
+            raise ValueError("there are no %d rows" % seen)
+        with self._lock:
+            self._held(_feed_keeping(self._at, whole, len(whole), seen, ctypes.addressof(taken)))
+        return taken.value
 
     def reset(self):
         """Makes it a blank screen of its size, at the beginning of a stream."""

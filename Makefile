@@ -186,7 +186,7 @@ mutants:
 
 # what is installed for no language in particular
 install-native: programs $(SHARED) $(SCREEN_SHARED)
-	$(INSTALL) -d $(BIN) $(LIB)/pkgconfig $(HEADERS) $(MAN)/man1 $(MAN)/man3 $(BASH) $(ZSH) $(FISH)
+	$(INSTALL) -d $(BIN) $(LIB)/pkgconfig $(HEADERS) $(MAN)/man1 $(MAN)/man3 $(MAN)/man7 $(BASH) $(ZSH) $(FISH)
 	for name in $(PROGRAMS); do \
 	    $(INSTALL) crates/$$name/out/$$name $(BIN)/$$name && \
 	    $(INSTALL) -m 644 man/$$name.1 $(MAN)/man1/$$name.1 || exit 1; \
@@ -203,6 +203,7 @@ install-native: programs $(SHARED) $(SCREEN_SHARED)
 	        echo ".so man3/$$name.3" > $(MAN)/man3/$$function.3 && chmod 644 $(MAN)/man3/$$function.3 || exit 1; \
 	    done; \
 	done
+	$(INSTALL) -m 644 man/ansi_keys.7 $(MAN)/man7/ansi_keys.7
 	$(INSTALL) -m 644 $(ARCHIVE) $(LIB)/libansi.a
 	$(INSTALL) $(SHARED) $(LIB)/libansi.so.$(VERSION)
 	ln -sf libansi.so.$(VERSION) $(LIB)/libansi.so.$(MAJOR)
@@ -233,6 +234,7 @@ uninstall:
 	    rm -f $(HEADERS)/$$name.h $(MAN)/man3/$$name.3; \
 	    for function in $$($(FUNCTIONS_OF) man/$$name.3); do rm -f $(MAN)/man3/$$function.3; done; \
 	done
+	rm -f $(MAN)/man7/ansi_keys.7
 	for name in ansi ansi_screen; do \
 	    rm -f $(LIB)/lib$$name.a $(LIB)/pkgconfig/$$name.pc $(LIB)/lib$$name.so $(LIB)/lib$$name.so.$(MAJOR); \
 	    rm -f $(LIB)/lib$$name.so.$(VERSION); \

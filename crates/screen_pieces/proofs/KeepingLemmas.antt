@@ -90,6 +90,12 @@ kept-without [] seen None none are = are
 kept-without [] seen (Some kept) none are = are
 kept-without (row ∷ rows) seen history none are = absurd (omega (arith, none))
 
+-- Fewer bytes need no more room.
+pub room-enough : (seen height sure n : ℕ) (kept : Kept) → n ≤ sure → (sure ≡ 0) ⊎ HasRoomSince seen (most_leaving height sure) kept
+    → (n ≡ 0) ⊎ HasRoomSince seen (most_leaving height n) kept
+room-enough seen height sure n kept few (inl none) = inl (omega (arith, few, none))
+room-enough seen height sure n kept few (inr room) = inr (omega (arith, room, mul-le-mul_right {m = n} {n = sure} (2 * height) few))
+
 -- A piece of which no more rows can leave than find room loses none.
 module _ (width height seen : ℕ) (before piece : List ℕ) (old new : Terminal)
     (stands : StandsAfter (new_state width height) before old) (feeds : Feeds piece old new) where

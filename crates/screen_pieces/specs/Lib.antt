@@ -2,8 +2,7 @@ pub mod Cells
 pub mod Text
 pub mod Drawing
 pub mod History
-pub mod Watched
-pub mod WatchedProof
+pub mod Answers
 pub mod Terminal
 pub mod Same
 pub mod Page

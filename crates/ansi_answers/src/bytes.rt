@@ -1,6 +1,6 @@
 //! The bytes of an answer, without memory of their own.
 ghost use Rattle.std.specs.Prelude.{◌≡◌, ◌≤◌, Some, [], false, length};
-ghost use Rattle.ansi_answers.specs.Text.{answer_text};
+ghost use Rattle.ansi_answers.specs.Text.{answer_text, max_answer};
 ghost use Rattle.ansi_answers.specs.Room.{bytes_in, has_overflowed};
 
 use crate::answer::{Answer, MAX_ANSWER};
@@ -17,7 +17,7 @@ struct AnswerRoom {
 
 impl AnswerRoom {
     /// It holds none.
-    fn new() -> AnswerRoom
+    fn empty() -> AnswerRoom
         ensures empty { bytes_in result ≡ [] }
         ensures not_failed { has_overflowed result ≡ false }
     {
@@ -34,7 +34,7 @@ impl Sink for AnswerRoom {
     ghost has_failed = { has_overflowed };
 
     // Only one that is full fails.
-    ghost failed_as = { λ room fault. MAX_ANSWER ≤ length (bytes_in room) };
+    ghost failed_as = { λ room fault. max_answer ≤ length (bytes_in room) };
 
     fn write(&mut self, bytes: &[u8]) -> Option<usize> {
         let count = bytes.len().min(self.bytes.remaining_capacity());
@@ -57,7 +57,7 @@ impl Answer {
         ensures { result.items ≡ answer_text self }
     {
         form(self);
-        let mut output = Output::new(AnswerRoom::new());
+        let mut output = Output::new(AnswerRoom::empty());
         self.write(&mut output);
         let (room, _answer) = output.finish();
         room.bytes

@@ -9,3 +9,4 @@ pub mod PartLemmas
 pub mod PlainLemmas
 pub mod ChangesLemmas
 pub mod AskedLemmas
+pub mod AnswerLemmas

@@ -1,5 +1,5 @@
 //! Answers to the program that is shown, in the caller's room, and the terminal's own colours as plain bytes.
-ghost use Rattle.std.specs.Prelude.{◌≡◌, map, IfOk, IfErr};
+ghost use Rattle.std.specs.Prelude.{◌≡◌, length, map, IfOk, IfErr};
 ghost use Rattle.std.specs.List.{flat_map};
 ghost use Rattle.ansi_answers.specs.Text.{answer_text};
 ghost use Rattle.screen_pieces.specs.Answers.{color_told, theme_told};
@@ -47,15 +47,14 @@ impl RgbBytes {
     }
 }
 
-/// The colours that they tell.
-fn palette(bytes: &[RgbBytes; 256]) -> [Option<Rgb>; 256]
-    ensures { result ≡ map color_told bytes.now }
+/// Writes the colours that they tell.
+fn put_colors(bytes: &[RgbBytes], colors: &mut [Option<Rgb>])
+    requires { length colors.old ≡ length bytes.now }
+    ensures { colors.new ≡ map color_told bytes.now }
 {
-    let mut palette = [None; 256];
-    for (index, color) in bytes.iter().enumerate() {
-        palette[index] = color.color();
+    for (place, color) in bytes.iter().enumerate() {
+        colors[place] = color.color();
     }
-    palette
 }
 
 impl ThemeBytes {
@@ -63,11 +62,13 @@ impl ThemeBytes {
     pub fn theme(&self) -> Theme
         ensures { result ≡ theme_told self.now }
     {
+        let mut palette = [None; 256];
+        put_colors(&self.palette, &mut palette);
         Theme {
             foreground: self.foreground.color(),
             background: self.background.color(),
             cursor: self.cursor.color(),
-            palette: palette(&self.palette),
+            palette,
         }
     }
 }

@@ -21,7 +21,7 @@
  * is to memory of its own that lives as long as the call; it is not null, also where the size beside it is 0; and no two
  * of the pieces of memory overlap, so a call is not given one screen twice. Nothing is kept of a pointer after the call.
  *
- * Not there: changing a screen's size, which ansi_events.h tells of the same bytes.
+ * Not there: changing a screen's size. ansi_events.h tells of the same bytes what asks for that.
  */
 #ifndef ANSI_SCREEN_H
 #define ANSI_SCREEN_H
@@ -228,13 +228,13 @@ typedef struct ansi_mouse {
     uint8_t reserved;
 } ansi_mouse;
 
-/* A colour that is told, or none where `told` is 0, in 4 bytes. */
+/* A colour that is told, in 4 bytes: or none, where `told` is 0. */
 typedef struct ansi_rgb {
     uint8_t told;
     uint8_t red, green, blue;
 } ansi_rgb;
 
-/* The terminal's own colours, in 1,036 bytes: zero bytes tell none (`= {0}` in C, `= {}` in C++). */
+/* The terminal's own colours, in 1036 bytes: zero bytes tell none (`= {0}` in C, `= {}` in C++). */
 typedef struct ansi_colors {
     ansi_rgb foreground, background, cursor;
     ansi_rgb palette[256];
@@ -341,7 +341,7 @@ bool ansi_screen_equal(ansi_screen *one, ansi_screen *other);
 bool ansi_screen_asked(ansi_screen *screen, uint16_t *bits);
 
 /* Writes what a terminal answers to who asked, the oldest first, as those of text do, and forgets it: these bytes go to the
- * program that is shown. `lost` becomes 1 where older answers were lost since the last such call, else 0: 64 wait at most. No text
+ * program that is shown. `lost` becomes 1 where older ones were lost since the last such call, else 0: at most 64 wait. No text
  * that the screen was fed comes back. Where it answers false, the answers wait on. Answered are DSR 5 and 6, DECXCPR, DA1 to
  * DA3, XTVERSION, DECRQM, DECRQSS of SGR, DECSTBM and DECSCUSR, CSI 18 t, CSI ? u, and OSC 4, 10, 11 and 12 with ?. A reset
  * (ansi_screen_reset) forgets answers; a copy has them too. */

@@ -9,7 +9,8 @@
 #include <assert.h>
 #include <string.h>
 
-static_assert(sizeof(ansi_rgb) == 4 && offsetof(ansi_rgb, red) == 1, "a colour that is told has 4 bytes");
+static_assert(sizeof(ansi_rgb) == 4, "a colour that is told has 4 bytes");
+static_assert(offsetof(ansi_rgb, red) == 1 && offsetof(ansi_rgb, blue) == 3, "of which whether it is told is first");
 static_assert(sizeof(ansi_colors) == 1036, "colours have 1,036 bytes");
 static_assert(offsetof(ansi_colors, background) == 4 && offsetof(ansi_colors, cursor) == 8, "which stand in order");
 static_assert(offsetof(ansi_colors, palette) == 12, "the palette last");

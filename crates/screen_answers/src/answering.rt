@@ -163,6 +163,7 @@ impl Perform for Answering {
     }
 
     #[inline(always)]
+    #[tactic(auto, using(crate::proofs::QuietLemmas::quiet_sequence))]
     fn csi_dispatch(&mut self, params: &Params, intermediates: &[u8], ignore: bool, action: u8) {
         self.asked
             .csi_dispatch(params, intermediates, ignore, action);

@@ -132,19 +132,16 @@ impl Perform for Answering {
         self.screen.execute(byte);
     }
 
-    #[inline(always)]
     fn hook(&mut self, params: &Params, intermediates: &[u8], ignore: bool, action: u8) {
         self.screen.hook(params, intermediates, ignore, action);
         self.request = Request::hooked(intermediates, ignore, action);
     }
 
-    #[inline(always)]
     fn put(&mut self, byte: u8) {
         self.screen.put(byte);
         self.request = self.request.with_byte(byte);
     }
 
-    #[inline(always)]
     fn unhook(&mut self) {
         self.screen.unhook();
         match self.request {
@@ -153,7 +150,6 @@ impl Perform for Answering {
         }
     }
 
-    #[inline(always)]
     fn osc_dispatch(&mut self, params: &[&[u8]], bell_terminated: bool) {
         self.asked.osc_dispatch(params, bell_terminated);
         self.screen.osc_dispatch(params, bell_terminated);

@@ -5,7 +5,7 @@ ghost use Rattle.ansi_modes.specs.Changes.{bits_of};
 ghost use Rattle.screen_pieces.specs.Text.{HasText, LacksRoom};
 
 use crate::answers::put_answers;
-use ansi_answers::{Request, Theme, Waiting};
+use ansi_answers::{Request, Theme};
 use ansi_modes::Asked;
 use ansi_screen::{History, MAX_COLUMNS, MAX_ROWS, MIN_COLUMNS, MIN_ROWS, Screen};
 use anstyle_parse::{Parser, Perform, Utf8Parser};
@@ -56,9 +56,10 @@ impl Terminal {
     {
         let screen = Screen::with_history(alloc, columns, rows, history)?;
         let links = LinkTable::new(alloc)?;
+        let answering = Answering::new(screen, links, Theme::none());
         Ok(Terminal {
             parser: Parser::<Utf8Parser>::new(),
-            answering: Answering::new(screen, links, Theme::none()),
+            answering,
         })
     }
 
@@ -91,7 +92,7 @@ impl Terminal {
         self.answering.links.clear();
         self.answering.asked.restart();
         self.answering.request = Request::Nothing;
-        self.answering.waiting = Waiting::new();
+        self.answering.waiting.take_all();
         self.parser = Parser::<Utf8Parser>::new();
     }
 

@@ -35,7 +35,7 @@ returns c =
         request = ([], AreCalls-nil, refl);
       };
       asked = c.restart.ensures;
-      waiting = c.new-waiting.ensures;
+      waiting = c.take_all.ensures.left;
       theme = refl;
       room = cleared-room _ new c.clear_history.ensures ∙ room-stays (reset ∷ []) old _ c.esc_dispatch.ensures;
       since = ap (λ (s : State). s.display.shown) led;

@@ -21,7 +21,7 @@
  * is to memory of its own that lives as long as the call; it is not null, also where the size beside it is 0; and no two
  * of the pieces of memory overlap, so a call is not given one screen twice. Nothing is kept of a pointer after the call.
  *
- * Not there: changing a screen's size, and answers to the host. ansi_events.h tells of the same bytes what asks for these.
+ * Not there: changing a screen's size. ansi_events.h tells of the same bytes what asks for that.
  */
 #ifndef ANSI_SCREEN_H
 #define ANSI_SCREEN_H
@@ -228,6 +228,18 @@ typedef struct ansi_mouse {
     uint8_t reserved;
 } ansi_mouse;
 
+/* A colour that is told, in 4 bytes: or none, where `told` is 0. */
+typedef struct ansi_rgb {
+    uint8_t told;
+    uint8_t red, green, blue;
+} ansi_rgb;
+
+/* The terminal's own colours, in 1036 bytes: zero bytes tell none (`= {0}` in C, `= {}` in C++). */
+typedef struct ansi_colors {
+    ansi_rgb foreground, background, cursor;
+    ansi_rgb palette[256];
+} ansi_colors;
+
 /* Holds a new screen of so many columns and rows, blank, at the beginning of a stream. What it held is freed. Answers
  * false, and holds none, where that is no size, or where there is no memory. */
 bool ansi_screen_open(ansi_screen *screen, size_t columns, size_t rows);
@@ -327,6 +339,18 @@ bool ansi_screen_equal(ansi_screen *one, ansi_screen *other);
 
 /* Writes to `bits` what a program asked for since the last such call, and forgets it: what was set to what it was is told too. */
 bool ansi_screen_asked(ansi_screen *screen, uint16_t *bits);
+
+/* Writes what a terminal answers to who asked, the oldest first, as those of text do, and forgets it: these bytes go to the
+ * program that is shown. `lost` becomes 1 where older ones were lost since the last such call, else 0: at most 64 wait. No text
+ * that the screen was fed comes back. Where it answers false, the answers wait on. Answered are DSR 5 and 6, DECXCPR, DA1 to
+ * DA3, XTVERSION, DECRQM, DECRQSS of SGR, DECSTBM and DECSCUSR, CSI 18 t, CSI ? u, and OSC 4, 10, 11 and 12 with ?. A reset
+ * (ansi_screen_reset) forgets answers; a copy has them too. */
+#define ANSI_SCREEN_ANSWERS_ROOM 4096
+bool ansi_screen_answers(ansi_screen *screen, unsigned char *room, size_t size, size_t *written, uint8_t *lost);
+
+/* Tells the terminal's own colours, in place of those told before. Who asks for one that neither was told nor is set has no
+ * answer. A reset leaves them. */
+bool ansi_screen_colors(ansi_screen *screen, const ansi_colors *colors);
 
 /* The title of the window, as those of text are written. It has no control, and at most 1,024 bytes. */
 #define ANSI_SCREEN_TITLE_ROOM 1024

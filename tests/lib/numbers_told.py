@@ -29,6 +29,7 @@ OF_SHOWN = [
 MODES_ASKED = ["1 presses (9), 2 releases too (1000), 3 drags (1002), 4 motion (1003)", "0 in three bytes, 1 by sgr (1006), 2 as urxvt (1015), 3 in pixels (1016)"]
 SHAPES = "0 the terminal's own, 1 a block, 2 a line below, 3 a bar (decscusr)"
 BUTTONS = "1 left, 2 middle, 3 right, 4 wheel up, 5 down, 6 left, 7 right, 8 back, 9 forward"
+ANSWERED = ["becomes {ON} where older ones were lost since the last such call, else {OFF}: at most {MAX_WAITING} wait", "dsr 5 and 6, decxcpr", "csi 18 t, csi ? u, and osc 4, 10, 11 and 12 with ?"]
 CUT_OFF = ["with the byte, counted from {FIRST}, at which the string begins"]
 PHRASES = {
     "include/ansi_events.h": [
@@ -68,7 +69,7 @@ PHRASES = {
         "is a byte, and 0 begins a text", "of room, which are {ANSI_LF_LEAST_ROOM}", "none that takes " + C1,
     ],
     "include/ansi_screen.h": [
-        *OWED, "a character that is broken is u+fffd", "none, in {ansi_screen} bytes", "any other number is {ANY_STYLING}", "one of xterm's 256, by its number", "a colour, in {ansi_color} bytes",
+        *OWED, *ANSWERED, "in {ansi_rgb} bytes: or none, where told is 0", "own colours, in {ansi_colors} bytes", "a character that is broken is u+fffd", "none, in {ansi_screen} bytes", "any other number is {ANY_STYLING}", "one of xterm's 256, by its number", "a colour, in {ansi_color} bytes",
         "is shown, in {ansi_style} bytes", "from bold on each is {ON} or {OFF}", "of a screen shows, in {ansi_cell} bytes", "each link (osc 8) since the last reset; {NO_LINK} for none",
         "{GOES_ON} in the last cell of a row from which autowrap went on", "modes, in {ansi_modes} bytes: each is {ON} where it is on, else {OFF}", "dectcem. 1049. decawm",
         *MODES_ASKED, "1004: the focus", "2004: what is pasted", "2026: what is shown", SHAPES + ". {OFF}.", "5, where num lock is off", "a function key, 1 to 24",
@@ -81,7 +82,7 @@ PHRASES = {
         "where ed 2, ed 0 at its first cell or ris", "the oldest has the number {FIRST}, and the one that left last kept - 1",
     ],
     "man/ansi_screen.3": [
-        *OWED, "a character that is broken is u+fffd", "from {MIN_COLUMNS} to {MAX_COLUMNS}, and rows, from {MIN_ROWS} to {MAX_ROWS}", "the rest of them is 0", "rows and columns are counted from {FIRST}",
+        *OWED, *ANSWERED, "ansi_rgb has, in {ansi_rgb} bytes", "told\" 0 where no colour is told", "ansi_colors has, in {ansi_colors} bytes", "palette[256]", "a character that is broken is u+fffd", "from {MIN_COLUMNS} to {MAX_COLUMNS}, and rows, from {MIN_ROWS} to {MAX_ROWS}", "the rest of them is 0", "rows and columns are counted from {FIRST}",
         "has bytes from {LOWEST} to {HIGHEST} alone", "the last {LINKS} links that began are kept", "it answers true, and written is 0",
         "is {ANY_STYLING} for light and dark pages, {LIGHT} for light ones, {DARK} for dark ones, and {CLASSES} for classes", "any other number is {ANY_STYLING}", "where ed 2, ed 0 at its first cell or ris",
         "the oldest has the number {FIRST}", "ansi_cell has, in {ansi_cell} bytes", "marks[{MOST_MARKS}]", "of its link (osc 8)", "takes; {NO_LINK} for none", "mark_count\" 0, 1 or {MOST_MARKS}.",
@@ -122,9 +123,9 @@ CONSTANTS = {
     "event_pieces/src/event": ["MAX_INTERMEDIATES"], "html_pieces/src/state": ["MAX_LINK"], "html_pieces/src/feeding": ["CAPACITY", "MOST_TAKEN"],
     "screen_html/src/table": ["MOST_KEPT"], "screen_draw/src/updates": ["PIECE"], "screen_text/src/recording": ["MOST_FRONT"], "ansi2html/src/words": ["MOST_OF_A_TAG"], "ansi_html/src/block": ["LINES_A_BLOCK"],
     "command_line/src/lib": ["FAILED", "MISUSED", "READER_GONE"], "ansi_screen/src/size": ["MIN_COLUMNS", "MAX_COLUMNS", "MIN_ROWS", "MAX_ROWS"],
-    "screen_pieces/src/modes": ["RESERVED_MODES"], "ansi_modes/src/text": ["MAX_TEXT"], "ansi_screen_c/src/history": ["RESERVED_OPTIONS"], "ansi_html/src/spare": ["BYTE_EARNS", "FEED_COUNTS"],
+    "screen_pieces/src/modes": ["RESERVED_MODES"], "ansi_modes/src/text": ["MAX_TEXT"], "ansi_answers/src/waiting": ["MAX_WAITING"], "ansi_screen_c/src/history": ["RESERVED_OPTIONS"], "ansi_html/src/spare": ["BYTE_EARNS", "FEED_COUNTS"],
 }  # fmt: skip
-PLAIN = ["PIECE", "MOST_FRONT", "MAX_COLUMNS", "MAX_ROWS"]  # which stand there with no commas
+PLAIN = ["PIECE", "MOST_FRONT", "MAX_COLUMNS", "MAX_ROWS", "ansi_colors"]  # which stand there with no commas
 
 
 def words_of(path, text):
@@ -151,7 +152,7 @@ def numbers(read, constant, executed):
     times = read("crates/ansi_html/specs/Html.antt")
     for name, styling in ("INLINE", r"\(Inline scheme\)"), ("BY_CLASSES", "Classes"):
         found[name] = int(re.search(r"(?m)^html_of_a_byte %s = (\d+)$" % styling, times)[1])
-    callers = "".join(read("tests/callers/%s.c" % it) for it in ("events", "header", "html", "lf", "safe", "screen"))
+    callers = "".join(read("tests/callers/%s.c" % it) for it in ("answers", "events", "header", "html", "lf", "safe", "screen"))
     found.update((name, int(size)) for name, size in re.findall(r"static_assert\(sizeof\((?:struct )?(\w+)\) == (\d+),", callers))
     found = {name: str(it) if name in PLAIN or name.startswith("RECORDED") else "{:,}".format(it) for name, it in found.items()}
     held = {name: it if isinstance(it, str) else "{:,}".format(it) for name, it in HELD.items()}

@@ -318,7 +318,49 @@ def asked_cases(ansi):
         yield "what is no key, mouse or paste, row %d" % number, found
 
 
+# What is sent to a screen of 20 columns and 6 rows, and what it answers: by xterm's ctlseqs and the VT510 manual.
+ANSWERS = [
+    ("", b""), ("\x1b[3;5H\x1b[6n", b"\x1b[3;5R"), ("\x1b[5n\x1b[?6n", b"\x1b[0n\x1b[?3;5;1R"), ("\x1b[c\x1b[>c\x1b[=c", b"\x1b[?62;22c\x1b[>1;10;0c\x1bP!|00000000\x1b\\"),
+    ("\x1b[?2026$p\x1b[?2026h\x1b[?2026$p\x1b[4$p\x1b[?9999$p", b"\x1b[?2026;2$y\x1b[?2026;1$y\x1b[4;2$y\x1b[?9999;0$y"), ("\x1b[18t", b"\x1b[8;6;20t"),
+    ("\x1bP$qm\x1b\\\x1b[1;31m\x1bP$qm\x1b\\\x1bP$qr\x1b\\\x1bP$qx\x1b\\", b"\x1bP1$r0m\x1b\\\x1bP1$r0;1;31m\x1b\\\x1bP1$r1;6r\x1b\\\x1bP0$r\x1b\\"),
+    ("\x1b[>3u\x1b[?u", b"\x1b[?3u"), ("\x1b]11;?\x07\x1b]10;?\x07\x1b]4;1;?\x07", b""), ("\x1b]2;rm -rf\x07\x1b[20t\x1b[21t\x1b]0;?\x07\x1b[2n", b""),
+    ("\x1b]11;rgb:12/34/56\x07\x1b]11;?\x1b\\", b"\x1b]11;rgb:1212/3434/5656\x1b\\"), ("\x1b[m\x1b[1;1H\x1b[2J\x1b[6", b""), ("n", b"\x1b[1;1R"),
+]  # fmt: skip
+
+
+def answer_cases(ansi):
+    """What is answered: once, in whatever pieces; the oldest is lost where more wait than can; and colours as they are told."""
+    for is_cut in (False, True):
+        screen = ansi.Screen(20, 6)
+        for stream, wanted in ANSWERS:
+            for piece in stream if is_cut else [stream]:
+                screen.feed(piece)
+            found = screen.answers(), screen.answers(), screen.answers_lost
+            yield "answers to %r" % stream, None if found == (wanted, b"", False) else "they are %s" % (found,)
+    screen.feed("\x1b[5n" * 3 + "\x1b[c" * 64)
+    copy = screen.copy()
+    found = screen.answers(), screen.answers_lost, screen.answers(), screen.answers_lost, copy.answers(), copy.answers_lost
+    wanted = b"\x1b[?62;22c" * 64, True, b"", False, b"\x1b[?62;22c" * 64, True
+    yield "64 answers wait at most, and in a copy too", None if found == wanted else "they are %s" % (found,)
+    screen.feed("\x1b[5n")
+    screen.colors((1, 2, 255), palette={7: (0, 16, 32)})
+    screen.reset()
+    screen.feed("\x1b]10;?\x07\x1b]11;?\x07\x1b]12;?\x07\x1b]4;7;?\x07\x1b]4;8;?\x07\x1b]4;7;#ffffff\x07\x1b]4;7;?\x07")
+    found, wanted = screen.answers(), b"\x1b]10;rgb:0101/0202/ffff\x07\x1b]4;7;rgb:0000/1010/2020\x07\x1b]4;7;rgb:ffff/ffff/ffff\x07"
+    yield "a reset forgets answers, and leaves the terminal's own colours", None if found == wanted else "they are %r" % found
+    screen.colors(background=(3, 4, 5), cursor=(6, 7, 8))
+    screen.feed("\x1b]10;?\x07\x1b]11;?\x07\x1b]12;?\x07")
+    found, wanted = screen.answers(), b"\x1b]11;rgb:0303/0404/0505\x07\x1b]12;rgb:0606/0707/0808\x07"
+    yield "colours are told in place of those before", None if found == wanted else "they are %r" % found
+    for number, call in enumerate((lambda: screen.colors((1, 2)), lambda: screen.colors((1, 2, 256)), lambda: screen.colors(palette={256: (1, 2, 3)}))):
+        try:
+            found = call() or "it is taken"
+        except ValueError as error:
+            found = None if str(error) else "with no words"
+        yield "what is no colour, row %d" % number, found
+
+
 def cases(ansi):
-    for part in (told_cases, cell_cases, mode_cases, asked_cases, joined_cases, change_cases, memory_cases, kept_cases, busy_cases, closed_cases):
+    for part in (told_cases, cell_cases, mode_cases, asked_cases, answer_cases, joined_cases, change_cases, memory_cases, kept_cases, busy_cases, closed_cases):
         yield from part(ansi)
     yield from shared_cases()

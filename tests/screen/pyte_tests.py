@@ -31,7 +31,7 @@ ATTRIBUTES = "bold italics underscore strikethrough reverse"
 # why a test does not pass, by its module and its name
 PAGES = "a screen has no pages of its history: its rows are read"
 SIZE = "a screen keeps its size"
-ANSWERS = "a screen sends no answers to the host"
+ANSWERS = "what a screen answers is read by answers()"
 LNM = "a line feed stays in its column, whatever LNM says"
 DIFFERENCES = {
     "test_screen.test_alignment_display": LNM + "; DECALN is not there",

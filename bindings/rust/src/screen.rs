@@ -18,14 +18,16 @@
 //! assert_eq!((screen.history_count(), screen.history_text(0).as_str()), (1, "one"));
 //! ```
 //!
-//! It can't be resized, and sends no answers to the host: [`events`](crate::events) of the same bytes tell what asks for these.
+//! It can't be resized: [`events`](crate::events) of the same bytes tell what asks for that.
 //!
 //! Its library takes memory by `malloc`: in [`Screen::new`], [`Screen::with_history`] and [`Screen::try_clone`], and in
 //! [`Screen::draw`], [`Screen::update`], [`Screen::to_html`], [`Screen::key`], [`Screen::mouse`], [`Screen::paste`] and
 //! [`Screen::focus`] while they work.
 
+mod answers;
 mod keys;
 
+pub use answers::{Answers, Colors, Rgb};
 pub use keys::{
     Action, Asked, Button, Encoding, Event, Held, Key, Mouse, Move, Pad, Shape, Tracking, Wheel,
 };

@@ -3,7 +3,7 @@
 #![cfg(feature = "screen")]
 
 use ansi_proved::screen::{Action, Button, CannotOpen, Cell, Color, Encoding, Event, Held, Key, Mouse, Move, Pad, Part, Place, Screen, Shape, Style};
-use ansi_proved::screen::{Tracking, Wheel};
+use ansi_proved::screen::{Answers, Colors, Rgb, Tracking, Wheel};
 use ansi_proved::{to_html, Styling};
 use std::collections::HashSet;
 use std::error::Error;
@@ -220,6 +220,27 @@ fn what_is_asked_for_is_told() {
     assert_eq!((screen.focus(false), screen.paste("a")), (b"\x1b[O".to_vec(), b"\x1b[200~a\x1b[201~".to_vec()));
     screen.reset();
     assert!(screen.title().is_empty() && screen.asked().colors && screen.modes().mouse.is_none());
+}
+
+/// What is answered, by xterm's ctlseqs: once, the oldest lost where more wait than can, and colours as they are told.
+#[test]
+fn who_asks_is_answered() {
+    let mut screen = shown(20, 6, "\x1b[3;5H\x1b[6n\x1b[5");
+    assert_eq!(screen.answers(), Answers { bytes: b"\x1b[3;5R".to_vec(), lost: false });
+    screen.feed(b"n");
+    let mut copy = screen.clone();
+    assert_eq!((screen.answers().bytes, copy.answers().bytes), (b"\x1b[0n".to_vec(), b"\x1b[0n".to_vec()));
+    screen.feed(&b"\x1b[c".repeat(65));
+    assert_eq!(screen.answers(), Answers { bytes: b"\x1b[?62;22c".repeat(64), lost: true });
+    let red = Rgb { red: 255, green: 1, blue: 2 };
+    let mut colors = Colors { background: Some(red), ..Colors::default() };
+    colors.palette[255] = Some(red);
+    screen.tell_colors(&colors);
+    screen.feed(b"\x1b[5n");
+    screen.reset();
+    screen.feed(b"\x1b]10;?\x07\x1b]11;?\x07\x1b]12;?\x07\x1b]4;255;?\x1b\\");
+    let wanted = b"\x1b]11;rgb:ffff/0101/0202\x07\x1b]4;255;rgb:ffff/0101/0202\x1b\\";
+    assert_eq!(screen.answers(), Answers { bytes: wanted.to_vec(), lost: false });
 }
 
 fn all_differ<T: PartialEq + std::fmt::Debug>(names: &[impl std::fmt::Debug], all: &[T]) {

@@ -3,3 +3,4 @@ pub mod RenditionLemmas
 pub mod ByteLemmas
 pub mod ReadLemmas
 pub mod BlindLemmas
+pub mod RoomLemmas

@@ -1,5 +1,5 @@
 -- The answer to a call, whole.
-use Rattle.std.specs.Prelude.{◌≡◌, Option, None}
+use Rattle.std.specs.Prelude.{◌≡◌, Option, None, List, [], ◌∷◌}
 use Rattle.anstyle_parse.specs.Stream.Call.{Call, hook, put, unhook, osc_dispatch, csi_dispatch}
 use Rattle.ansi_modes.specs.declared.asked.Asked.{Asked}
 use Rattle.ansi_answers.specs.declared.facts.Facts.{Facts}
@@ -24,6 +24,11 @@ request_after (hook groups marks ignore final) r = hooked marks ignore final
 request_after (put byte) r = with_byte byte r
 request_after unhook r = Nothing
 request_after call r = r
+
+-- and after a list of calls
+abbrev pub request_after_all : List Call → Request → Request
+request_after_all [] r = r
+request_after_all (call ∷ calls) r = request_after_all calls (request_after call r)
 
 -- what an answer can go by is the same of both
 pub record HasSameNumbers (a b : Asked) : Type 0 where

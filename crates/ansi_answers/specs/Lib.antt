@@ -5,3 +5,4 @@ pub mod Settings
 pub mod Commands
 pub mod Waiting
 pub mod Laws
+pub mod Room

@@ -1,7 +1,7 @@
 -- Which control sequences are answered, and how.
 --
 -- Sources: as of `Text`. What is asked for by other numbers, as the titles by CSI 20 t and 21 t, is never told.
-use Rattle.std.specs.Prelude.{ℕ, ◌-◌, Bool, ◌&&◌, ◌==◌, Option, None, Some, List, [], ◌∷◌, if◌then◌else◌}
+use Rattle.std.specs.Prelude.{ℕ, ◌-◌, Bool, ◌&&◌, ◌||◌, ◌==◌, Option, None, Some, List, [], ◌∷◌, if◌then◌else◌}
 use Rattle.ansi_modes.specs.declared.asked.Asked.{Asked}
 use Rattle.ansi_modes.specs.declared.modes.Modes.{Modes}
 use Rattle.ansi_modes.specs.declared.modes.Field.{Field}
@@ -15,6 +15,11 @@ use Rattle.ansi_answers.specs.declared.answer.ModeState.TheVariants.{Unknown, Ne
 use Rattle.ansi_answers.specs.declared.answer.Answer.{Answer}
 use Rattle.ansi_answers.specs.declared.answer.Answer.TheVariants.{AllIsWell, CursorPosition, ExtendedPosition, PrimaryAttributes, SecondaryAttributes, TertiaryAttributes, Version, Mode, PrivateMode, Size, KeyFlags}
 use Rattle.ansi_answers.specs.Text.{state_of}
+
+-- the final bytes of all that is answered
+unfoldable pub may_be_answered : ℕ → Bool
+may_be_answered final =
+    final == 0x63 || final == 0x6E || final == 0x70 || final == 0x71 || final == 0x74 || final == 0x75
 
 -- the cursor's row; in origin mode the first of the margins is 1
 abbrev pub row_told : Facts → ℕ

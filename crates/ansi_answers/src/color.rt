@@ -33,6 +33,18 @@ impl Theme {
             palette: [None; 256],
         }
     }
+
+    /// Others that are the same.
+    pub fn copy(&self) -> Theme
+        ensures { result ≡ self.now }
+    {
+        Theme {
+            foreground: self.foreground,
+            background: self.background,
+            cursor: self.cursor,
+            palette: self.palette,
+        }
+    }
 }
 
 /// The first colour, or else the second.

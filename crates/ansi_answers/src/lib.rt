@@ -5,6 +5,7 @@
 #![tactic(auto)]
 
 mod answer;
+mod bytes;
 mod color;
 mod facts;
 pub mod laws;
@@ -17,5 +18,5 @@ pub use answer::{Answer, MAX_ANSWER, ModeState, Paint};
 pub use color::{Theme, answer_to_command};
 pub use facts::Facts;
 pub use request::Request;
-pub use sequence::answer_to_sequence;
+pub use sequence::{answer_to_sequence, may_be_answered};
 pub use waiting::{MAX_WAITING, Waiting};

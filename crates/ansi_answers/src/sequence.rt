@@ -2,13 +2,23 @@
 ghost use Rattle.std.specs.Prelude.{◌≡◌};
 ghost use Rattle.anstyle_parse.specs.Views.Params.{groups_shown};
 ghost use Rattle.ansi_modes.specs.Fields.{first_of};
-ghost use Rattle.ansi_answers.specs.Sequences.{row_told, plain_state, screen_state, field_state, private_state, plain_answer, marked_answer, answer_to_sequence, sequence_answer};
+ghost use Rattle.ansi_answers.specs.Sequences.{may_be_answered, row_told, plain_state, screen_state, field_state, private_state, plain_answer, marked_answer, answer_to_sequence, sequence_answer};
 
 use crate::answer::{Answer, ModeState};
 use crate::facts::Facts;
 use ansi_modes::fields::two_fields;
 use ansi_modes::{Asked, Field};
 use anstyle_parse::Params;
+
+/// Whether a control sequence with this final byte may be answered: so those that set a colour or move the cursor cost
+/// no call.
+#[inline(always)]
+#[tactic(auto, unfolding(crate::specs::Sequences::may_be_answered))]
+pub fn may_be_answered(final_byte: u8) -> bool
+    ensures { result ≡ may_be_answered final_byte }
+{
+    matches!(final_byte, b'c' | b'n' | b'p' | b'q' | b't' | b'u')
+}
 
 /// The cursor's row, as a program counts it.
 fn row_told(facts: &Facts) -> u16

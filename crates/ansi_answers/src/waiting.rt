@@ -49,6 +49,18 @@ impl Waiting {
         }
     }
 
+    /// Others that are the same.
+    pub fn copy(&self) -> Waiting
+        ensures { result ≡ self.now }
+    {
+        let mut answers = ArrayVec::new();
+        let _fits = answers.try_extend_from_slice(self.answers.as_slice());
+        Waiting {
+            answers,
+            has_lost: self.has_lost,
+        }
+    }
+
     /// Those that wait.
     pub fn answers(&self) -> &[Answer]
         ensures answers { result.now ≡ self.now.answers }
@@ -77,6 +89,15 @@ impl Waiting {
         let has_lost = self.has_lost;
         self.has_lost = false;
         has_lost
+    }
+
+    /// All leave. It answers whether one was lost since this was last asked.
+    pub fn take_all(&mut self) -> bool
+        ensures lost { result ≡ self.old.has_lost }
+        ensures left { self.new ≡ nothing_waits }
+    {
+        self.answers.clear();
+        self.take_lost()
     }
 }
 

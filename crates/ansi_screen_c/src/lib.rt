@@ -2,6 +2,7 @@
 //! what their caller owes.
 #![tactic(auto)]
 
+mod answering;
 mod asking;
 mod changes;
 mod drawing;

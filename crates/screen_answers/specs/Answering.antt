@@ -1,5 +1,5 @@
 -- A screen that answers, by one call after another.
-use Rattle.std.specs.Prelude.{List, [], ◌∷◌}
+use Rattle.std.specs.Prelude.{ℕ, Bool, List, [], ◌∷◌}
 use Rattle.anstyle_parse.specs.Stream.Call.{Call}
 use Rattle.ansi_screen.specs.After.{State, after}
 use Rattle.ansi_modes.specs.Asked.{nothing_asked, asked_after}
@@ -7,17 +7,46 @@ use Rattle.ansi_answers.specs.declared.color.Theme.{Theme}
 use Rattle.ansi_answers.specs.declared.request.Request.TheVariants.{Nothing}
 use Rattle.ansi_answers.specs.Waiting.{nothing_waits, with_answer}
 use Rattle.ansi_answers.specs.Laws.{answer_to, request_after}
+use Rattle.ansi_answers.specs.Sequences.{answer_to_sequence}
+use Rattle.ansi_answers.specs.Commands.{answer_to_command}
+use Rattle.ansi_answers.specs.Settings.{setting_answer}
+use Rattle.screen_html.specs.Links.{Table}
+use Rattle.screen_html.specs.Page.{links_by}
 use Rattle.screen_answers.specs.declared.answering.Answering.{Answering}
 use Rattle.screen_answers.specs.Facts.{facts_of}
 
 -- a screen of which nothing was asked yet
-abbrev pub new_answering : State → Theme → Answering
-new_answering s t = record { screen = s; asked = nothing_asked; theme = t; request = Nothing; waiting = nothing_waits }
+abbrev pub new_answering : State → Table → Theme → Answering
+new_answering s links t = record {
+  screen = s;
+  links = links;
+  asked = nothing_asked;
+  theme = t;
+  request = Nothing;
+  waiting = nothing_waits;
+}
 
--- After a call. It is answered by the screen, and by what is asked for, after it.
+-- a control sequence, a command, and the end of a string are answered
+abbrev pub with_sequence : List (List ℕ) → List ℕ → (ignore : Bool) → ℕ → Answering → Answering
+with_sequence groups marks ignore final t = record t {
+  waiting = with_answer (answer_to_sequence groups marks ignore final (facts_of t.screen) t.asked) t.waiting;
+}
+
+abbrev pub with_command : List (List ℕ) → (bell : Bool) → Answering → Answering
+with_command parts bell t = record t { waiting = with_answer (answer_to_command parts bell t.asked t.theme) t.waiting }
+
+abbrev pub with_setting : Answering → Answering
+with_setting t = record t {
+  request = Nothing;
+  waiting = with_answer (setting_answer t.request (facts_of t.screen) t.asked) t.waiting;
+}
+
+-- After a call. A link that begins is kept by the number then in force; and the call is answered by the screen, and by
+-- what is asked for, after it.
 abbrev pub answering_after : Call → Answering → Answering
 answering_after call t = record {
   screen = after call t.screen;
+  links = links_by call (after call t.screen) t.links;
   asked = asked_after call t.asked;
   theme = t.theme;
   request = request_after call t.request;

@@ -1,16 +1,23 @@
-//! A screen, what is asked for beside it, and the answers.
-ghost use Rattle.std.specs.Prelude.{◌≡◌};
+//! A screen, its links, what is asked for beside it, and the answers.
+ghost use Rattle.std.specs.Prelude.{◌≡◌, map, IfOk};
+ghost use Rattle.anstyle_parse.specs.Views.Params.{groups_shown};
 ghost use Rattle.screen_answers.specs.Facts.{facts_of};
 
-use ansi_answers::{Facts, Request, Theme, Waiting, answer_to_command, answer_to_sequence};
+use ansi_answers::{
+    Facts, Request, Theme, Waiting, answer_to_command, answer_to_sequence, may_be_answered,
+};
 use ansi_modes::Asked;
 use ansi_screen::Screen;
 use anstyle_parse::{Params, Perform, PerformText};
+use screen_html::LinkTable;
+use std::alloc::{AllocError, Global};
 
-/// A screen, what is asked for beside it, and the answers that were not taken yet.
+/// A screen, the links that began on it, what is asked for beside it, and the answers that were not taken yet.
 #[derive(Drop)]
 pub struct Answering {
     pub screen: Screen,
+    /// The links of its cells by their numbers.
+    pub links: LinkTable,
     pub asked: Asked,
     /// The terminal's own colours.
     pub theme: Theme,
@@ -43,35 +50,86 @@ pub fn facts_of(screen: &Screen) -> Facts
 }
 
 impl Answering {
-    ghost use Rattle.screen_answers.specs.Answering.{new_answering};
+    ghost use Rattle.ansi_screen.specs.After.{as_shown};
+    ghost use Rattle.screen_answers.specs.Answering.{new_answering, with_sequence, with_command, with_setting};
 
     /// A screen of which nothing was asked yet.
-    pub fn new(screen: Screen, theme: Theme) -> Answering
-        ensures { result ≡ new_answering screen theme }
+    pub fn new(screen: Screen, links: LinkTable, theme: Theme) -> Answering
+        ensures { result ≡ new_answering screen links theme }
     {
         Answering {
             screen,
+            links,
             asked: Asked::new(),
             theme,
             request: Request::Nothing,
             waiting: Waiting::new(),
         }
     }
+
+    /// Another one that stands where it stands; its screen notes what changes from now on. `Err` means that memory is
+    /// wanting.
+    pub fn copy(&self, alloc: Global) -> Result<Answering, AllocError>
+        ensures { IfOk result (λ copy. copy ≡ record self.now { screen = as_shown self.now.screen }) }
+    {
+        Ok(Answering {
+            screen: self.screen.copy(alloc)?,
+            links: self.links.copy(alloc)?,
+            asked: self.asked.copy(),
+            theme: self.theme.copy(),
+            request: self.request,
+            waiting: self.waiting.copy(),
+        })
+    }
+
+    /// Answers a control sequence.
+    #[cold]
+    #[inline(never)]
+    fn answer_sequence(&mut self, params: &Params, intermediates: &[u8], ignore: bool, action: u8)
+        ensures { self.new ≡ with_sequence (groups_shown params.now) intermediates.now ignore action self.old }
+    {
+        let facts = facts_of(&self.screen);
+        let answer = answer_to_sequence(params, intermediates, ignore, action, &facts, &self.asked);
+        self.waiting.keep(answer);
+    }
+
+    /// Answers a command.
+    fn answer_command(&mut self, params: &[&[u8]], bell_terminated: bool)
+        ensures { self.new ≡ with_command (map (λ part. part.now) params.now) bell_terminated self.old }
+    {
+        let answer = answer_to_command(params, bell_terminated, &self.asked, &self.theme);
+        self.waiting.keep(answer);
+    }
+
+    /// Answers a string that asks for a setting: then none is asked for.
+    #[cold]
+    #[inline(never)]
+    fn answer_setting(&mut self)
+        ensures { self.new ≡ with_setting self.old }
+    {
+        let facts = facts_of(&self.screen);
+        let answer = self.request.answer(&facts, &self.asked);
+        self.request = Request::Nothing;
+        self.waiting.keep(answer);
+    }
 }
 
-/// After each call it is what the definition says of the one before and the call.
+/// After each call it is what the definition says of the one before and the call. A call that cannot ask computes no
+/// answer.
 impl Perform for Answering {
     ghost use Rattle.screen_answers.specs.Answering.{answering_after};
 
     ghost means = { λ old call new. new ≡ answering_after call old };
 
+    #[inline(always)]
     fn print(&mut self, c: char) {
         self.screen.print(c);
     }
 
+    #[inline(always)]
     fn execute(&mut self, byte: u8) {
-        self.screen.execute(byte);
         self.asked.execute(byte);
+        self.screen.execute(byte);
     }
 
     fn hook(&mut self, params: &Params, intermediates: &[u8], ignore: bool, action: u8) {
@@ -86,36 +144,40 @@ impl Perform for Answering {
 
     fn unhook(&mut self) {
         self.screen.unhook();
-        let facts = facts_of(&self.screen);
-        let answer = self.request.answer(&facts, &self.asked);
-        self.request = Request::Nothing;
-        self.waiting.keep(answer);
+        match self.request {
+            Request::Nothing => {}
+            _ => self.answer_setting(),
+        }
     }
 
     fn osc_dispatch(&mut self, params: &[&[u8]], bell_terminated: bool) {
-        self.screen.osc_dispatch(params, bell_terminated);
         self.asked.osc_dispatch(params, bell_terminated);
-        let answer = answer_to_command(params, bell_terminated, &self.asked, &self.theme);
-        self.waiting.keep(answer);
+        self.screen.osc_dispatch(params, bell_terminated);
+        let link = self.screen.link();
+        self.links.take_command(link, params);
+        self.answer_command(params, bell_terminated);
     }
 
+    #[inline(always)]
+    #[tactic(auto, using(crate::proofs::QuietLemmas::quiet_sequence))]
     fn csi_dispatch(&mut self, params: &Params, intermediates: &[u8], ignore: bool, action: u8) {
-        self.screen
-            .csi_dispatch(params, intermediates, ignore, action);
         self.asked
             .csi_dispatch(params, intermediates, ignore, action);
-        let facts = facts_of(&self.screen);
-        let answer = answer_to_sequence(params, intermediates, ignore, action, &facts, &self.asked);
-        self.waiting.keep(answer);
+        self.screen
+            .csi_dispatch(params, intermediates, ignore, action);
+        if may_be_answered(action) {
+            self.answer_sequence(params, intermediates, ignore, action);
+        }
     }
 
+    #[inline(always)]
     fn esc_dispatch(&mut self, intermediates: &[u8], ignore: bool, byte: u8) {
-        self.screen.esc_dispatch(intermediates, ignore, byte);
         self.asked.esc_dispatch(intermediates, ignore, byte);
+        self.screen.esc_dispatch(intermediates, ignore, byte);
     }
 }
 
-/// A text is not answered, and asks for nothing.
+/// A text is not answered, asks for nothing, and begins no link.
 impl PerformText for Answering {
     ghost use Rattle.screen_answers.specs.AnsweringProof.{Becomes, becomes-follows};
 

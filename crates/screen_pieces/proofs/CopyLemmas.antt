@@ -15,7 +15,7 @@ use Rattle.screen_html.specs.Links.{Table}
 use Rattle.screen_html.specs.Page.{links_by, all_links}
 use Rattle.screen_pieces.specs.declared.terminal.Terminal.{Terminal}
 use Rattle.screen_pieces.specs.History.{KeepsLeft}
-use Rattle.screen_pieces.specs.Terminal.{screen_of, KeepsLinks, HasAsked, StandsAfter, IsCopy}
+use Rattle.screen_pieces.specs.Terminal.{screen_of, KeepsLinks, HasAsked, HasRequest, StandsAfter, IsCopy}
 use Rattle.ansi_screen.proofs.LeftLemmas.{all_left-since, all_left-unkept}
 
 module _ (p : Picture) (other : Option Kept → Option Kept) (beside : IsBeside other) where
@@ -71,4 +71,5 @@ copy-stands first bytes terminal copy is stands =
       history = subst (λ (s : State). KeepsLeft first bytes s.display.history) (sym is.screen) stands.history;
       links = subst (KeepsLinks first bytes) (sym is.links) stands.links;
       asked = subst (HasAsked bytes) (sym is.asked) stands.asked;
+      request = subst (HasRequest bytes) (sym is.request) stands.request;
     }

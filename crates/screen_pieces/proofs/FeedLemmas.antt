@@ -17,9 +17,9 @@ use Rattle.ansi_screen.proofs.PictureLemmas.{unkept-after_all}
 use Rattle.ansi_screen.proofs.LeavingLemmas.{kept-most}
 use Rattle.ansi_screen.proofs.LeavingTable.{with_left-none}
 use Rattle.ansi_screen.proofs.LeftLemmas.{history-after_all, with_left-append}
-use Rattle.screen_pieces.specs.declared.watched.Watched.{Watched}
+use Rattle.screen_answers.specs.declared.answering.Answering.{Answering}
+use Rattle.screen_answers.specs.Laws.{GoByThemselves}
 use Rattle.screen_pieces.specs.History.{nothing_yet, KeepsLeft}
-use Rattle.screen_pieces.specs.Watched.{WatchesAll}
 use Rattle.screen_pieces.proofs.CopyLemmas.{left-led}
 
 pub shows-more : (first old new : State) (before more : List ℕ) (made : List Call) → Continues before more made
@@ -66,18 +66,18 @@ keeps-more first screen new since before more made continues shows kept becomes 
     )
 
 -- The picture since which it notes what changes stays.
-pub picture-stays : (made : List Call) (old new : Watched) → WatchesAll old made new → new.screen.display.shown ≡ old.screen.display.shown
-picture-stays made old new watches =
-    ap (λ (s : State). s.display.shown) watches.screen ∙ since-stays made old.screen
+pub picture-stays : (made : List Call) (old new : Answering) → GoByThemselves made old new → new.screen.display.shown ≡ old.screen.display.shown
+picture-stays made old new led =
+    ap (λ (s : State). s.display.shown) led.screen ∙ since-stays made old.screen
 
 -- There stays as much room for rows that leave.
-pub room-led : (made : List Call) (old new : Watched) → WatchesAll old made new
+pub room-led : (made : List Call) (old new : Answering) → GoByThemselves made old new
     → nothing_yet new.screen.display.history ≡ nothing_yet old.screen.display.history
-room-led made old new watches = room-stays made old.screen new.screen watches.screen
+room-led made old new led = room-stays made old.screen new.screen led.screen
 
 -- Without what it keeps, its screen is led on by the same calls.
-pub unkept-led : (made : List Call) (old new : Watched) → WatchesAll old made new → unkept new.screen ≡ after_all made (unkept old.screen)
-unkept-led made old new watches = ap unkept watches.screen ∙ sym (unkept-after_all made old.screen)
+pub unkept-led : (made : List Call) (old new : Answering) → GoByThemselves made old new → unkept new.screen ≡ after_all made (unkept old.screen)
+unkept-led made old new led = ap unkept led.screen ∙ sym (unkept-after_all made old.screen)
 
 -- a screen with the picture that it has
 pub with-own : (s first : State) (since : Picture) → s ≡ with_shown since first → s ≡ with_shown s.display.shown first

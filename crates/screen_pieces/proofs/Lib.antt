@@ -10,3 +10,4 @@ pub mod PartLemmas
 pub mod PlainLemmas
 pub mod ChangesLemmas
 pub mod AskedLemmas
+pub mod AnswerLemmas

@@ -1,6 +1,6 @@
--- Links that are kept after a piece more; a text begins none.
-use Rattle.std.proofs.Common.{◌≡◌, ℕ, List, [], ◌∷◌, ◌++◌, map, refl, sym, ap, ◌∙◌}
-use Rattle.anstyle_parse.specs.Stream.Call.{Call, print}
+-- Links that are kept after a piece more.
+use Rattle.std.proofs.Common.{◌≡◌, ℕ, List, [], ◌∷◌, ◌++◌, refl, sym, ap, ◌∙◌}
+use Rattle.anstyle_parse.specs.Stream.Call.{Call}
 use Rattle.anstyle_parse.specs.Stream.Calls.{Continues}
 use Rattle.anstyle_parse.proofs.Division.Only.{AreCalls-only}
 use Rattle.ansi_screen.specs.Display.{Picture}
@@ -8,14 +8,14 @@ use Rattle.ansi_screen.specs.Laws.{with_shown}
 use Rattle.ansi_screen.specs.Leaving.{unkept}
 use Rattle.ansi_screen.specs.After.{State, Shows, after, after_all}
 use Rattle.screen_html.specs.Links.{Table, no_links}
-use Rattle.screen_html.specs.Page.{all_links}
+use Rattle.screen_html.specs.Page.{links_by, all_links}
 use Rattle.screen_pieces.specs.Terminal.{KeepsLinks}
-use Rattle.screen_pieces.specs.WatchedProof.{all_links-append}
 use Rattle.screen_pieces.proofs.CopyLemmas.{links-led}
 
-pub links-printed : (characters : List ℕ) (s : State) (links : Table) → links ≡ all_links (map print characters) s links
-links-printed [] s links = refl
-links-printed (c ∷ characters) s links = links-printed characters (after (print c) s) links
+all_links-append : (calls more : List Call) (s : State) (links : Table)
+    → all_links (calls ++ more) s links ≡ all_links more (after_all calls s) (all_links calls s links)
+all_links-append [] more s links = refl
+all_links-append (call ∷ calls) more s links = all_links-append calls more (after call s) (links_by call (after call s) links)
 
 pub links-more : (first screen : State) (since : Picture) (before more : List ℕ) (made : List Call) (old new : Table) → Continues before more made
     → Shows (with_shown since (unkept first)) before (unkept screen) → KeepsLinks first before old → new ≡ all_links made screen old

@@ -3,8 +3,7 @@ pub mod Text
 pub mod Drawing
 pub mod History
 pub mod Keeping
-pub mod Watched
-pub mod WatchedProof
+pub mod Answers
 pub mod Terminal
 pub mod Same
 pub mod Page

@@ -1,4 +1,5 @@
 -- A screen that takes its stream in pieces.
+use Rattle.std.specs.List.{flat_map}
 use Rattle.std.specs.Prelude.{◌≡◌, ◌<◌, ◌≤◌, ℕ, Some, List, [], ◌++◌, length, take, drop, map, slice_index_or}
 use Rattle.ansi_style.specs.Style.{plain}
 use Rattle.anstyle_parse.specs.Stream.Call.{Call}
@@ -17,6 +18,14 @@ use Rattle.ansi_modes.specs.declared.asked.Asked.{Asked}
 use Rattle.ansi_modes.specs.Asked.{nothing_asked, asked_after_all}
 use Rattle.ansi_modes.specs.Changes.{all_changes}
 use Rattle.ansi_modes.specs.Laws.{untold}
+use Rattle.ansi_answers.specs.declared.color.Theme.{Theme}
+use Rattle.ansi_answers.specs.declared.request.Request.{Request}
+use Rattle.ansi_answers.specs.declared.request.Request.TheVariants.{Nothing}
+use Rattle.ansi_answers.specs.Commands.{no_theme}
+use Rattle.ansi_answers.specs.Laws.{request_after_all}
+use Rattle.ansi_answers.specs.Text.{answer_text}
+use Rattle.ansi_answers.specs.Waiting.{Queue, nothing_waits}
+use Rattle.screen_answers.specs.Answering.{answering_after_all}
 use Rattle.screen_html.specs.Links.{Kept as KeptLink, Table, no_links}
 use Rattle.screen_html.specs.Page.{all_links}
 use Rattle.screen_pieces.specs.declared.cell.CellBytes.{CellBytes}
@@ -25,7 +34,7 @@ use Rattle.screen_pieces.specs.Cells.{cell_in}
 use Rattle.screen_pieces.specs.History.{nothing_yet, kept_of, kept_row, KeepsLeft}
 
 abbrev pub screen_of : Terminal → State
-screen_of terminal = terminal.both.first.screen
+screen_of terminal = terminal.answering.screen
 
 abbrev pub display_of : Terminal → Display
 display_of terminal = (screen_of terminal).display
@@ -36,14 +45,27 @@ history_of terminal = kept_of (display_of terminal).history
 
 -- its table of links, and those that this keeps, by their numbers
 abbrev pub table_of : Terminal → Table
-table_of terminal = terminal.both.first.links
+table_of terminal = terminal.answering.links
 
 abbrev pub links_of : Terminal → List KeptLink
 links_of terminal = (table_of terminal).places
 
 -- what the stream asked for beside the screen
 abbrev pub asked_of : Terminal → Asked
-asked_of terminal = terminal.both.second
+asked_of terminal = terminal.answering.asked
+
+-- the terminal's own colours, as they were told; the setting that is being asked for; and the answers that wait, as bytes
+abbrev pub theme_of : Terminal → Theme
+theme_of terminal = terminal.answering.theme
+
+abbrev pub request_of : Terminal → Request
+request_of terminal = terminal.answering.request
+
+abbrev pub waiting_of : Terminal → Queue
+waiting_of terminal = terminal.answering.waiting
+
+abbrev pub answers_of : Terminal → List ℕ
+answers_of terminal = flat_map answer_text (waiting_of terminal).answers
 
 -- It is what the bytes ask for. What of it was told, they do not decide.
 abbrev pub HasAsked : List ℕ → Asked → Type 0
@@ -53,6 +75,16 @@ HasAsked bytes asked =
 -- The calls that a piece adds to those of the bytes before lead from the one to the other, also in what is told.
 abbrev pub AsksOn : (before piece : List ℕ) → (old new : Asked) → Type 0
 AsksOn before piece old new = (calls : List Call) × Continues before piece calls × (new ≡ asked_after_all calls old)
+
+-- The calls that a piece adds lead from the one to the other in all: each was answered by the screen, and by what was
+-- asked for, after it.
+abbrev pub AnswersOn : (before piece : List ℕ) → (old new : Terminal) → Type 0
+AnswersOn before piece old new =
+    (calls : List Call) × Continues before piece calls × (new.answering ≡ answering_after_all calls old.answering)
+
+-- The string that is open asks for the setting that the bytes ask for.
+abbrev pub HasRequest : List ℕ → Request → Type 0
+HasRequest bytes request = (calls : List Call) × AreCalls bytes calls × (request ≡ request_after_all calls Nothing)
 
 -- Kept are the last of the links that began by the bytes, from a first screen on.
 abbrev pub KeepsLinks : State → List ℕ → Table → Type 0
@@ -65,13 +97,14 @@ begun first terminal = with_shown (display_of terminal).shown (unkept first)
 
 -- It stands after the bytes: its screen is the one that they lead to, from a first one on, its parser stands after
 -- them, and what it keeps are the last rows that left by them and the last links that began; and it has been asked for
--- what they ask for.
+-- what they ask for, as has a setting. What waits of answers, and the terminal's own colours, they do not decide.
 pub record StandsAfter (first : State) (bytes : List ℕ) (terminal : Terminal) : Type 0 where
   pub shows : Shows (begun first terminal) bytes (unkept (screen_of terminal))
   pub parser : IsAfter front_of terminal.parser bytes
   pub history : KeepsLeft first bytes (display_of terminal).history
   pub links : KeepsLinks first bytes (table_of terminal)
   pub asked : HasAsked bytes (asked_of terminal)
+  pub request : HasRequest bytes (request_of terminal)
 
 -- Another one stands where it stands, in all that it shows and keeps; what it notes is what changes from now on.
 pub record IsCopy (terminal copy : Terminal) : Type 0 where
@@ -79,6 +112,9 @@ pub record IsCopy (terminal copy : Terminal) : Type 0 where
   pub parser : copy.parser ≡ terminal.parser
   pub links : table_of copy ≡ table_of terminal
   pub asked : asked_of copy ≡ asked_of terminal
+  pub request : request_of copy ≡ request_of terminal
+  pub waiting : waiting_of copy ≡ waiting_of terminal
+  pub theme : theme_of copy ≡ theme_of terminal
 
 -- Nothing is told of what it was asked for any more; all else stays.
 pub record Tells (old new : Terminal) : Type 0 where
@@ -86,6 +122,19 @@ pub record Tells (old new : Terminal) : Type 0 where
   pub parser : new.parser ≡ old.parser
   pub links : table_of new ≡ table_of old
   pub asked : asked_of new ≡ untold (asked_of old)
+  pub request : request_of new ≡ request_of old
+  pub waiting : waiting_of new ≡ waiting_of old
+  pub theme : theme_of new ≡ theme_of old
+
+-- No answer waits any more, and none counts as lost; all else stays.
+pub record TakesAnswers (old new : Terminal) : Type 0 where
+  pub parser : new.parser ≡ old.parser
+  pub answering : new.answering ≡ record old.answering { waiting = nothing_waits }
+
+-- The terminal's own colours are these; all else stays.
+pub record HasTheme (theme : Theme) (old new : Terminal) : Type 0 where
+  pub parser : new.parser ≡ old.parser
+  pub answering : new.answering ≡ record old.answering { theme = theme }
 
 -- There is as much room as before for rows that leave.
 abbrev pub SameRoom : (old new : Terminal) → Type 0
@@ -98,13 +147,18 @@ pub record Feeds (piece : List ℕ) (old new : Terminal) : Type 0 where
       → StandsAfter first (before ++ piece) new
   pub asked : (before : List ℕ) → IsAfter front_of old.parser before
       → AsksOn before piece (asked_of old) (asked_of new)
+  pub answers : (before : List ℕ) → IsAfter front_of old.parser before → AnswersOn before piece old new
+  pub theme : theme_of new ≡ theme_of old
   pub room : SameRoom old new
   pub since : (display_of new).shown ≡ (display_of old).shown
 
--- It is one of the same size at the beginning of a stream, and all that can be asked for is told as set. Here too it forgets nothing of what can have changed.
+-- It is one of the same size at the beginning of a stream, and all that can be asked for is told as set. No answer waits;
+-- the terminal's own colours stay. Here too it forgets nothing of what can have changed.
 pub record Begins (old new : Terminal) : Type 0 where
   pub stands : StandsAfter (new_state (display_of old).width (display_of old).height) [] new
   pub asked : asked_of new ≡ record nothing_asked { changes = all_changes }
+  pub waiting : waiting_of new ≡ nothing_waits
+  pub theme : theme_of new ≡ theme_of old
   pub room : SameRoom old new
   pub since : (display_of new).shown ≡ (display_of old).shown
 
@@ -113,6 +167,8 @@ pub record IsNew (columns rows history : ℕ) (terminal : Terminal) : Type 0 whe
   pub stands : StandsAfter (new_state columns rows) [] terminal
   pub room : (display_of terminal).history ≡ Some (nothing_kept history columns)
   pub asked : asked_of terminal ≡ nothing_asked
+  pub waiting : waiting_of terminal ≡ nothing_waits
+  pub theme : theme_of terminal ≡ no_theme
 
 -- the cell of a row and a column
 abbrev pub cell_of : (row column : ℕ) → Display → Cell

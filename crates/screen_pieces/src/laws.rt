@@ -1,6 +1,7 @@
 //! Laws of the rows that leave a screen, of copies, of what changes, and of what is told.
 ghost use Rattle.std.specs.Prelude.{◌≡◌, ◌≤◌, ℕ, List};
 ghost use Rattle.anstyle_parse.specs.Stream.Call.{Call};
+ghost use Rattle.ansi_answers.specs.declared.color.Theme.{Theme};
 ghost use Rattle.ansi_screen.specs.After.{State, new_state};
 ghost use Rattle.ansi_screen.specs.Damage.{KeepsColumns};
 ghost use Rattle.ansi_screen.specs.Display.{most_columns, most_rows, row_cells};
@@ -8,7 +9,7 @@ ghost use Rattle.ansi_screen.specs.Leaving.{all_left};
 ghost use Rattle.screen_pieces.specs.declared.terminal.Terminal.{Terminal};
 ghost use Rattle.std.specs.List.{AllByRecursion};
 ghost use Rattle.screen_pieces.specs.History.{HasCells};
-ghost use Rattle.screen_pieces.specs.Terminal.{display_of, StandsAfter, IsCopy, Tells, Feeds, CanHaveChanged};
+ghost use Rattle.screen_pieces.specs.Terminal.{display_of, StandsAfter, IsCopy, Tells, TakesAnswers, HasTheme, Feeds, CanHaveChanged};
 
 /// Rows are whole: each that leaves a screen, whatever calls a new one has received, has a cell in each column.
 pub fn rows_are_whole()
@@ -32,8 +33,13 @@ pub fn copies_stand()
         → StandsAfter first bytes terminal → StandsAfter first bytes copy }
 {}
 
-/// Who is told of what was asked for leaves the screen where it stands.
+/// Who is told of what was asked for, who takes answers, and who tells the terminal's own colours leaves the screen where
+/// it stands.
 pub fn telling_stays()
-    ensures { (first : State) (bytes : List ℕ) (old new : Terminal) → Tells old new → StandsAfter first bytes old
-        → StandsAfter first bytes new }
+    ensures told { (first : State) (bytes : List ℕ) (old new : Terminal) → Tells old new
+        → StandsAfter first bytes old → StandsAfter first bytes new }
+    ensures answers { (first : State) (bytes : List ℕ) (old new : Terminal) → TakesAnswers old new
+        → StandsAfter first bytes old → StandsAfter first bytes new }
+    ensures theme { (first : State) (bytes : List ℕ) (theme : Theme) (old new : Terminal) → HasTheme theme old new
+        → StandsAfter first bytes old → StandsAfter first bytes new }
 {}

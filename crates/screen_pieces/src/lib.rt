@@ -4,6 +4,7 @@
 //! What it shows is read as records of plain bytes, of which any are valid, and as text.
 #![tactic(auto)]
 
+mod answers;
 mod cell;
 mod drawing;
 mod keeping;
@@ -16,8 +17,8 @@ mod same;
 mod telling;
 mod terminal;
 mod text;
-mod watched;
 
+pub use answers::{RgbBytes, ThemeBytes};
 pub use ansi_style::bytes::{ColorBytes, StyleBytes};
 pub use cell::CellBytes;
 pub use keys::{KeyBytes, MouseBytes};

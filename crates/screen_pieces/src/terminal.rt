@@ -1,12 +1,15 @@
 //! A screen with the parser that leads to it.
-ghost use Rattle.std.specs.Prelude.{◌≡◌, ◌≤◌, true, [], Some, is_some, IfOk};
+ghost use Rattle.std.specs.Prelude.{◌≡◌, ◌≤◌, true, [], Some, is_some, IfOk, IfErr, OnOk, OnErr};
 ghost use Rattle.ansi_screen.specs.After.{new_state};
 ghost use Rattle.ansi_modes.specs.Changes.{bits_of};
+ghost use Rattle.screen_pieces.specs.Text.{HasText, LacksRoom};
 
-use crate::watched::Watched;
-use ansi_modes::{Asked, Both};
+use crate::answers::put_answers;
+use ansi_answers::{Request, Theme};
+use ansi_modes::Asked;
 use ansi_screen::{History, MAX_COLUMNS, MAX_ROWS, MIN_COLUMNS, MIN_ROWS, Screen};
 use anstyle_parse::{Parser, Perform, Utf8Parser};
+use screen_answers::Answering;
 use screen_html::LinkTable;
 use std::alloc::{AllocError, Global};
 
@@ -18,13 +21,13 @@ use std::alloc::{AllocError, Global};
 #[derive(Drop)]
 pub struct Terminal {
     parser: Parser,
-    both: Both<Watched, Asked>,
+    answering: Answering,
     // It keeps the last rows that leave it, of as many as it was opened with: maybe of none.
-    ghost keeps: { is_some both.first.screen.display.history ≡ true },
+    ghost keeps: { is_some answering.screen.display.history ≡ true },
 }
 
 impl Terminal {
-    ghost use Rattle.screen_pieces.specs.Terminal.{screen_of, display_of, table_of, asked_of, StandsAfter, Feeds, Begins, IsNew, IsCopy, Tells};
+    ghost use Rattle.screen_pieces.specs.Terminal.{screen_of, display_of, table_of, asked_of, waiting_of, answers_of, StandsAfter, Feeds, Begins, IsNew, IsCopy, Tells, TakesAnswers, HasTheme};
 
     /// A blank screen of so many columns and rows, at the beginning of a stream. `Err` means that memory is
     /// wanting.
@@ -51,16 +54,12 @@ impl Terminal {
         requires max_rows { rows ≤ MAX_ROWS }
         ensures { IfOk result (IsNew columns rows history) }
     {
-        let asked = Asked::new();
+        let screen = Screen::with_history(alloc, columns, rows, history)?;
+        let links = LinkTable::new(alloc)?;
+        let answering = Answering::new(screen, links, Theme::none());
         Ok(Terminal {
             parser: Parser::<Utf8Parser>::new(),
-            both: Both {
-                first: Watched {
-                    screen: Screen::with_history(alloc, columns, rows, history)?,
-                    links: LinkTable::new(alloc)?,
-                },
-                second: asked,
-            },
+            answering,
         })
     }
 
@@ -70,33 +69,30 @@ impl Terminal {
     {
         Ok(Terminal {
             parser: self.parser.clone()?,
-            both: Both {
-                first: Watched {
-                    screen: self.screen().copy(alloc)?,
-                    links: self.links().copy(alloc)?,
-                },
-                second: self.asked().copy(),
-            },
+            answering: self.answering.copy(alloc)?,
         })
     }
 
     /// Takes the next bytes of the stream: then it shows, and has been asked for, what the definitions say of all bytes
-    /// so far.
+    /// so far, and what they are answered waits.
     pub fn feed(&mut self, piece: &[u8])
         ensures { Feeds piece.now self.old self.new }
     {
-        self.parser.advance_texts(&mut self.both, piece);
+        self.parser.advance_texts(&mut self.answering, piece);
     }
 
-    /// Becomes a blank screen of its size, at the beginning of a stream. All that can be asked for counts as set.
+    /// Becomes a blank screen of its size, at the beginning of a stream. All that can be asked for counts as set, and
+    /// answers that wait are forgotten. The terminal's own colours stay.
     pub fn reset(&mut self)
         ensures { Begins self.old self.new }
     {
         // ESC c, which makes any screen a new one
-        self.both.first.screen.esc_dispatch(&[], false, b'c');
-        self.both.first.screen.clear_history();
-        self.both.first.links.clear();
-        self.both.second.restart();
+        self.answering.screen.esc_dispatch(&[], false, b'c');
+        self.answering.screen.clear_history();
+        self.answering.links.clear();
+        self.answering.asked.restart();
+        self.answering.request = Request::Nothing;
+        self.answering.waiting.take_all();
         self.parser = Parser::<Utf8Parser>::new();
     }
 
@@ -105,14 +101,14 @@ impl Terminal {
     pub fn forget(&mut self)
         ensures { IsCopy self.old self.new }
     {
-        self.both.first.screen.forget();
+        self.answering.screen.forget();
     }
 
     /// The screen.
     pub fn screen(&self) -> &Screen
         ensures { result.now ≡ screen_of self.now }
     {
-        &self.both.first.screen
+        &self.answering.screen
     }
 
     /// The rows that left the screen, of which it keeps the last.
@@ -126,14 +122,14 @@ impl Terminal {
     pub fn links(&self) -> &LinkTable
         ensures { result.now ≡ table_of self.now }
     {
-        &self.both.first.links
+        &self.answering.links
     }
 
     /// What the stream asked for beside the screen.
     pub fn asked(&self) -> &Asked
         ensures { result.now ≡ asked_of self.now }
     {
-        &self.both.second
+        &self.answering.asked
     }
 
     /// What was set since the last such call, as the bits of [`Changes`](ansi_modes::Changes). It is forgotten, and all
@@ -142,6 +138,29 @@ impl Terminal {
         ensures bits { result ≡ bits_of (asked_of self.old).changes }
         ensures told { Tells self.old self.new }
     {
-        self.both.second.take_changes().bits()
+        self.answering.asked.take_changes().bits()
+    }
+
+    /// Writes the answers that wait, the oldest first, to the front of the room, and forgets them. It answers how many
+    /// bytes they have, and whether older ones were lost since the last such call: at most 64 answers wait, of at most
+    /// 64 bytes. `Err` has how many bytes there are, which the room has not: then they wait on, and what stands in the
+    /// room does not count. It takes no memory.
+    pub fn answers(&mut self, room: &mut [u8]) -> Result<(usize, bool), usize>
+        ensures text { IfOk result (λ told. HasText (answers_of self.old) room.old room.new told.0) }
+        ensures lost { IfOk result (λ told. told.1 ≡ (waiting_of self.old).has_lost) }
+        ensures taken { OnOk result (TakesAnswers self.old self.new) }
+        ensures refused { IfErr result (LacksRoom (answers_of self.old) room.old) }
+        ensures kept { OnErr result (self.new ≡ self.old) }
+    {
+        let length = put_answers(self.answering.waiting.answers(), room)?;
+        Ok((length, self.answering.waiting.take_all()))
+    }
+
+    /// Tells the terminal's own colours, by which a program that asks for one is answered where it set none. Those that
+    /// were told before are told no more.
+    pub fn tell_theme(&mut self, theme: Theme)
+        ensures { HasTheme theme self.old self.new }
+    {
+        self.answering.theme = theme;
     }
 }

@@ -61,7 +61,7 @@ impl<'a> TextWriter<'a> {
     }
 
     /// Several bytes more.
-    fn put_bytes(&mut self, bytes: &[u8])
+    pub(crate) fn put_bytes(&mut self, bytes: &[u8])
         ensures { Puts bytes.now self.old self.new }
     {
         let end = self.needed.saturating_add(bytes.len());

@@ -1,4 +1,5 @@
 //! Rows that were worked by hand, by the library that they are of, and the names of the screen.
+mod answers;
 mod asked;
 mod damage;
 mod draw;

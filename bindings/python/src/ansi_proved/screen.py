@@ -91,6 +91,14 @@ class MouseBytes(ctypes.Structure):
     _fields_ += [(name, ctypes.c_ubyte) for name in ("action", "button", "modifiers", "reserved")]
 
 
+class RgbBytes(ctypes.Structure):
+    _fields_ = [(name, ctypes.c_ubyte) for name in ("told", "red", "green", "blue")]
+
+
+class OwnColors(ctypes.Structure):
+    _fields_ = [*((name, RgbBytes) for name in ("foreground", "background", "cursor")), ("palette", RgbBytes * 256)]
+
+
 class Options(ctypes.Structure):
     _fields_ = [("history", ctypes.c_size_t), ("reserved", ctypes.c_size_t * 7)]
 
@@ -128,6 +136,7 @@ _history, _history_row = _call("ansi_screen_history", _AT, _AT), _call("ansi_scr
 _history_text = _call("ansi_screen_history_text", _SIZE, *_WRITES)
 _feed_keeping = _call("ansi_screen_feed_keeping", _AT, _SIZE, _SIZE, _AT)
 _asked, _title = _call("ansi_screen_asked", _AT), _call("ansi_screen_title", *_WRITES)
+_answers, _colors = _call("ansi_screen_answers", *_WRITES, _AT), _call("ansi_screen_colors", _AT)
 _key, _mouse = _call("ansi_screen_key", _AT, *_WRITES), _call("ansi_screen_mouse", _AT, *_WRITES)
 _paste, _focus = _call("ansi_screen_paste", _AT, _SIZE, *_WRITES), _call("ansi_screen_focus", ctypes.c_ubyte, *_WRITES)
 # what a byte of modes is, where it is not True or False
@@ -214,6 +223,16 @@ def _key_of(name, shifted, event, held):
     other = name.upper() if shifted is None else shifted
     bytes_of_key.character, bytes_of_key.shifted = ord(name), ord(other) if len(other) == 1 and other != name else 0
     return bytes_of_key
+
+
+def _rgb_of(color):
+    """The bytes of a colour: of none, where it is None."""
+    if color is None:
+        return RgbBytes()
+    numbers = [index(it) for it in color]
+    if len(numbers) != 3 or not all(0 <= it < 256 for it in numbers):
+        raise ValueError("a colour is three numbers below 256, and not %r" % (color,))
+    return RgbBytes(1, *numbers)
 
 
 def _decoded(written):
@@ -321,7 +340,7 @@ class Screen:
             screen.text()  # "one\ntwo\n"
 
     It takes what a terminal takes: CR LF between lines. A byte that belongs to no character leaves nothing. A with block closes it,
-    as `close` does, and so does its end. It can't be resized, and sends no answers to the host: `events` of the same bytes tell what asks for these.
+    as `close` does, and so does its end. It can't be resized: `events` of the same bytes tell what asks for that.
 
     history: how many of the last rows that leave it are kept. Each takes some 40 bytes a column, from the beginning on.
 
@@ -332,6 +351,7 @@ class Screen:
     """
 
     _at = None
+    answers_lost = False
 
     def __init__(self, columns=80, rows=24, history=0):
         check_size(columns, rows)
@@ -573,6 +593,26 @@ class Screen:
         with self._lock:
             self._held(_asked(self._at, ctypes.addressof(found)))
         return {name for it, name in enumerate(ASKED) if found.value >> it & 1}
+
+    def answers(self):
+        """What a terminal would have answered since this was called before, as bytes to write to the program: DSR, DA, DECRQM and the
+        like. 64 wait at most: where older ones were lost, `answers_lost` is True until the next call. No text that was fed comes back."""
+        lost = ctypes.c_ubyte()
+        with self._lock:
+            made = self._made_by(bytes, lambda at, *room: _answers(at, *room, ctypes.addressof(lost)))
+            self.answers_lost = lost.value != 0
+        return made
+
+    def colors(self, foreground=None, background=None, cursor=None, palette=None):
+        """Tells the terminal's own colours, each (red, green, blue), in place of those told before; `palette`: a dict from their numbers. Who
+        asks for one that neither was told nor is set has no answer."""
+        told = OwnColors(_rgb_of(foreground), _rgb_of(background), _rgb_of(cursor))
+        for number, color in (palette or {}).items():
+            if not 0 <= index(number) < 256:
+                raise ValueError("a palette has numbers below 256, and not %r" % (number,))
+            told.palette[number] = _rgb_of(color)
+        with self._lock:
+            self._held(_colors(self._at, ctypes.addressof(told)))
 
     def key(self, name, *, shifted=None, event="press", **held):
         """The bytes that a program reads of a key, by what it asked for: b"" where that is nothing.

@@ -1,7 +1,7 @@
 """The types of this module, for type checkers and editors."""
 
 from types import TracebackType
-from typing import ClassVar, List, Literal, NamedTuple, Optional, Sequence, Set, Tuple, Type, Union, overload
+from typing import ClassVar, List, Literal, Mapping, NamedTuple, Optional, Sequence, Set, Tuple, Type, Union, overload
 
 _Bytes = Union[bytes, bytearray, memoryview]
 _Kind = Literal["default", "named", "bright", "indexed", "direct"]
@@ -11,6 +11,7 @@ _Mouse = Literal["", "presses", "buttons", "drags", "motion"]
 _Encoding = Literal["", "sgr", "urxvt", "pixels"]
 _Shape = Literal["", "block", "underline", "bar"]
 _Event = Literal["press", "repeat", "release"]
+_Rgb = Sequence[int]
 _Action = Literal["press", "release", "move"]
 
 class Cursor(NamedTuple):
@@ -109,6 +110,15 @@ class Screen:
     @property
     def title(self) -> str: ...
     def asked(self) -> Set[str]: ...
+    answers_lost: bool
+    def answers(self) -> bytes: ...
+    def colors(
+        self,
+        foreground: Optional[_Rgb] = None,
+        background: Optional[_Rgb] = None,
+        cursor: Optional[_Rgb] = None,
+        palette: Optional[Mapping[int, Optional[_Rgb]]] = None,
+    ) -> None: ...
     def key(self, name: str, *, shifted: Optional[str] = None, event: _Event = "press", **held: bool) -> bytes: ...
     def mouse(self, action: _Action, column: int, row: int, *, button: str = "", x: int = 0, y: int = 0, **held: bool) -> bytes: ...
     def paste(self, text: str) -> bytes: ...

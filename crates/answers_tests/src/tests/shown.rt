@@ -2,13 +2,26 @@
 use super::{Row, assert_answers};
 use ansi_answers::Theme;
 use ansi_screen::Screen;
-use screen_answers::laws::any_pieces;
+use screen_answers::laws::{any_pieces, parts};
 use screen_answers::{Answering, facts_of};
-use std::alloc::AllocGlobal;
+use screen_html::LinkTable;
+use std::alloc::{AllocError, AllocGlobal, Global};
 use std::process::Abort;
 
-fn assert_row(rt: &(impl Abort + AllocGlobal), screen: Screen, bytes: &[u8], wanted: &[u8]) {
-    let mut answering = Answering::new(screen, Theme::none());
+fn made(alloc: Global) -> Result<Answering, AllocError> {
+    Ok(Answering::new(
+        Screen::new(alloc, 20, 6)?,
+        LinkTable::new(alloc)?,
+        Theme::none(),
+    ))
+}
+
+fn assert_row(
+    rt: &(impl Abort + AllocGlobal),
+    mut answering: Answering,
+    bytes: &[u8],
+    wanted: &[u8],
+) {
     let (front, back) = bytes.split_at(bytes.len() / 2);
     any_pieces(&mut answering, &[front, back]);
     assert_answers(rt, answering.waiting.answers(), wanted);
@@ -17,8 +30,8 @@ fn assert_row(rt: &(impl Abort + AllocGlobal), screen: Screen, bytes: &[u8], wan
 }
 
 fn assert_shown(rt: &(impl Abort + AllocGlobal), row: &Row) {
-    match Screen::new(rt.alloc(), 20, 6) {
-        Ok(screen) => assert_row(rt, screen, row.0, row.1),
+    match made(rt.alloc()) {
+        Ok(answering) => assert_row(rt, answering, row.0, row.1),
         Err(_) => assert!(rt; false),
     }
 }
@@ -49,4 +62,5 @@ fn shown(rt: HostRuntime) {
     for row in rows {
         assert_shown(&rt, &row);
     }
+    parts();
 }

@@ -1,7 +1,9 @@
 //! Answers that nobody takes; the laws.
 use super::assert_same;
 use ansi_answers::laws::{blind, form, selects};
-use ansi_answers::{Answer, MAX_ANSWER, MAX_WAITING, ModeState, Paint, Waiting};
+use ansi_answers::{
+    Answer, MAX_ANSWER, MAX_WAITING, ModeState, Paint, Theme, Waiting, may_be_answered,
+};
 use ansi_style::Style;
 use std::process::Abort;
 
@@ -36,6 +38,24 @@ fn oldest_lost(rt: HostRuntime) {
     assert_waits(&rt, &mut waiting, Some(flags(3)), false);
     assert_same(&rt, &(MAX_ANSWER * MAX_WAITING), &4096);
     drop(waiting);
+}
+
+// A copy waits by itself.
+#[test]
+fn copies(rt: HostRuntime) {
+    let mut waiting = Waiting::new();
+    for number in 0..65 {
+        waiting.keep(Some(flags(number)));
+    }
+    let mut copy = waiting.copy();
+    assert_same(&rt, &waiting.take_all(), &true);
+    assert_waits(&rt, &mut waiting, None, false);
+    assert_waits(&rt, &mut copy, Some(flags(1)), true);
+    assert_same(&rt, &flags(7).bytes().as_slice(), &b"\x1B[?7u".as_slice());
+    assert!(rt; may_be_answered(b'n') && !may_be_answered(b'm'));
+    assert!(rt; Theme::none().copy().foreground.is_none());
+    drop(waiting);
+    drop(copy);
 }
 
 // By what a caller tells answers apart.

@@ -1,5 +1,5 @@
 -- ESC c leaves a new screen, a new parser stands after no bytes, and what was kept is forgotten.
-use Rattle.std.proofs.Common.{[], ◌∷◌, ap, ◌∙◌}
+use Rattle.std.proofs.Common.{[], ◌∷◌, refl, ap, ◌∙◌}
 use Rattle.anstyle_parse.proofs.Canonical.Items.{AreCalls-nil}
 use Rattle.ansi_screen.proofs.LawLemmas.{after-reset}
 use Rattle.ansi_modes.specs.Laws.{untold}
@@ -13,13 +13,13 @@ pub invariant_of-self : goal.invariant_of-self
 invariant_of-self c = record {
   keeps = some-stays _ _
       (cleared-room _ c.clear_history.new.self c.clear_history.ensures
-      ∙ room-stays (reset ∷ []) c.args.self.now.both.first.screen _ c.esc_dispatch.ensures)
+      ∙ room-stays (reset ∷ []) c.args.self.now.answering.screen _ c.esc_dispatch.ensures)
       c.args.self.now.keeps;
 }
 
 pub returns : goal.returns
 returns c =
-    let old = c.args.self.now.both.first.screen in
+    let old = c.args.self.now.answering.screen in
     let new = c.clear_history.new.self in
     let led = c.clear_history.ensures ∙ ap with_room_alone (c.esc_dispatch.ensures ∙ after-reset old) in record {
       stands = record {
@@ -32,8 +32,11 @@ returns c =
         history = ([], AreCalls-nil, cleared-left _ new c.clear_history.ensures);
         links = ([], AreCalls-nil, c.clear.ensures);
         asked = ([], AreCalls-nil, ap untold c.restart.ensures);
+        request = ([], AreCalls-nil, refl);
       };
       asked = c.restart.ensures;
+      waiting = c.take_all.ensures.left;
+      theme = refl;
       room = cleared-room _ new c.clear_history.ensures ∙ room-stays (reset ∷ []) old _ c.esc_dispatch.ensures;
       since = ap (λ (s : State). s.display.shown) led;
     }

@@ -5,23 +5,28 @@ use Rattle.ansi_modes.specs.Laws.{untold}
 use Rattle.ansi_screen.specs.After.{State, new_state}
 use Rattle.ansi_screen.specs.Leaving.{unkept}
 use Rattle.ansi_screen.proofs.LeavingTable.{with_left-none}
+use Rattle.screen_answers.specs.declared.answering.Answering.{Answering}
 use Rattle.screen_pieces.specs.History.{nothing_yet}
 use Rattle.screen_pieces.proofs.FeedLemmas.{with-own}
 use Rattle.screen_pieces.proofs.terminal.Terminal.with_history.Goals as goal
 
 pub returns : goal.returns
 returns c =
-    let screen = c.in_ok-with_history.field-0 in
-    let is = c.in_ok-with_history.ensures in
-    let asked = c.new-asked.ensures in
+    let new = c.new-answering.ensures in
+    let screen = c.new-answering.result.screen in
+    let is = ap (λ (t : Answering). t.screen) new ∙ c.in_ok-with_history.ensures in
+    let asked = ap (λ (t : Answering). t.asked) new in
     let room = ap (λ (s : State). s.display.history) is in record {
       stands = record {
         shows = ([], AreCalls-nil, with-own (unkept screen) (new_state c.args.columns c.args.rows) (new_state c.args.columns c.args.rows).display.shown (ap unkept is));
         parser = c.new.ensures.stands;
         history = ([], AreCalls-nil, room ∙ (sym (ap nothing_yet room) ∙ sym (with_left-none (nothing_yet screen.display.history))));
-        links = ([], AreCalls-nil, c.in_ok-new.ensures);
+        links = ([], AreCalls-nil, ap (λ (t : Answering). t.links) new ∙ c.in_ok-new.ensures);
         asked = ([], AreCalls-nil, ap untold asked);
+        request = ([], AreCalls-nil, ap (λ (t : Answering). t.request) new);
       };
       room = room;
       asked = asked;
+      waiting = ap (λ (t : Answering). t.waiting) new;
+      theme = ap (λ (t : Answering). t.theme) new ∙ c.none.ensures;
     }

@@ -247,9 +247,7 @@ impl MouseText {
     {
         match self {
             MouseText::Nothing => {}
-            MouseText::Bytes(code, column, row) => to.take(&[
-                0x1B, b'[', b'M', code, column, row,
-            ]),
+            MouseText::Bytes(code, column, row) => to.take(&[0x1B, b'[', b'M', code, column, row]),
             MouseText::Sgr(code, column, row, is_released) => put_sgr(
                 to,
                 code,

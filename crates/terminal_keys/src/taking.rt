@@ -32,8 +32,20 @@ impl<W: Sink> TakeBytes for Output<W> {
     ghost joins = { record { none = Adds-nil W.Sink; more = Adds-append W.Sink } };
 }
 
-/// Hands on a character, in UTF-8.
+/// Hands on a character, in UTF-8. One of a single byte is handed on with no copy.
+#[inline]
 pub(crate) fn put_char<T: TakeBytes>(to: &mut T, character: char)
+    ensures { T.takes (encode_utf8 character) to.old to.new }
+{
+    if character.is_ascii() {
+        to.take(&[character as u8]);
+    } else {
+        put_encoded(to, character);
+    }
+}
+
+/// The same with a character of several bytes.
+fn put_encoded<T: TakeBytes>(to: &mut T, character: char)
     ensures { T.takes (encode_utf8 character) to.old to.new }
 {
     let mut bytes = [0; 4];

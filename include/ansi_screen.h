@@ -3,8 +3,7 @@
  *
  * A stream comes in pieces of any size, cut anywhere: the screen after it is the same. No input is refused. Memory is
  * taken by ansi_screen_open, ansi_screen_open_with and ansi_screen_copy (malloc), and given back by ansi_screen_close (free);
- * by ansi_screen_draw, ansi_screen_update, ansi_screen_html, ansi_screen_key, ansi_screen_mouse, ansi_screen_paste and
- * ansi_screen_focus while they work; and by no other call. The library has no data
+ * by ansi_screen_draw, ansi_screen_update and ansi_screen_html while they work; and by no other call. The library has no data
  * of its own: threads may call it at the same time, each with a screen of its own.
  *
  *     ansi_screen screen = {0};
@@ -357,7 +356,7 @@ bool ansi_screen_colors(ansi_screen *screen, const ansi_colors *colors);
 bool ansi_screen_title(ansi_screen *screen, unsigned char *room, size_t size, size_t *written);
 
 /* The four that follow write what a program reads of a key, of the mouse, of what is pasted and of the focus, by what it asked
- * for, as those of drawings do. What it did not ask for is no bytes: they answer true, and `written` is 0. */
+ * for, as those of text are written. What it did not ask for is no bytes: they answer true, and `written` is 0. */
 bool ansi_screen_key(ansi_screen *screen, const ansi_key *key, unsigned char *room, size_t size, size_t *written);
 bool ansi_screen_mouse(ansi_screen *screen, const ansi_mouse *mouse, unsigned char *room, size_t size, size_t *written);
 

@@ -1,5 +1,5 @@
 -- What the calls from C do.
-use Rattle.std.specs.Prelude.{◌≡◌, ◌⊎◌, ⊤, ℕ, List, [], Option, None, Some}
+use Rattle.std.specs.Prelude.{◌≡◌, ◌⊎◌, ⊤, ℕ, List, [], Option, None, Some, IsUtf8}
 use Rattle.ansi_screen.specs.After.{new_state}
 use Rattle.ansi_screen.specs.Display.{Display}
 use Rattle.screen_pieces.specs.declared.terminal.Terminal.{Terminal}
@@ -7,6 +7,7 @@ use Rattle.screen_pieces.specs.Drawing.{update_of}
 use Rattle.screen_pieces.specs.Terminal.{display_of, history_of, StandsAfter, IsNew}
 use Rattle.ansi_screen.specs.History.{Kept}
 use Rattle.screen_pieces.specs.Same.{ShowSame}
+use Rattle.screen_pieces.specs.Telling.{paste_told}
 use Rattle.screen_pieces.specs.Text.{HasText, LacksRoom, IsNotRead}
 
 -- A screen is held, of which this holds.
@@ -53,6 +54,10 @@ IsRefusedOf read room needed (Some terminal) = (needed ≡ 0) ⊎ LacksRoom (rea
 abbrev pub HasNoRoomOf : (Terminal → List ℕ) → (room : List ℕ) (needed : ℕ) → Option Terminal → Type 0
 HasNoRoomOf read room needed None = needed ≡ 0
 HasNoRoomOf read room needed (Some terminal) = LacksRoom (read terminal) room needed
+
+-- A text is not pasted: it is no UTF-8, and the number is 0; or the room has fewer bytes than a program reads.
+abbrev pub IsNotPasted : (text room : List ℕ) (needed : ℕ) → Option Terminal → Type 0
+IsNotPasted text room needed held = ((IsUtf8 text → ⊥) × (needed ≡ 0)) ⊎ HasNoRoomOf (paste_told text) room needed held
 
 -- the same as the first two of what is kept of the rows that left
 abbrev pub ReadsKept : (Kept → List ℕ) → (room room_after : List ℕ) (written : ℕ) → Terminal → Type 0

@@ -1,11 +1,11 @@
 //! What the stream asked for beside the screen, and what a program reads by it, for C.
-ghost use Rattle.std.specs.Prelude.{◌≡◌, None};
+ghost use Rattle.std.specs.Prelude.{◌≡◌, None, IsUtf8};
 ghost use Rattle.std.specs.Bool.{OnTrue, OnFalse};
 ghost use Rattle.ansi_modes.specs.Changes.{bits_of};
 ghost use Rattle.ansi_style.specs.Bytes.{is_set};
 ghost use Rattle.screen_pieces.specs.Telling.{title_of, key_told, mouse_told, paste_told, focus_told};
 ghost use Rattle.screen_pieces.specs.Terminal.{asked_of, Tells};
-ghost use Rattle.ansi_screen_c.specs.Calls.{Holds, Both, ReadsOf, IsRefusedOf, HasNoRoomOf};
+ghost use Rattle.ansi_screen_c.specs.Calls.{Holds, Both, ReadsOf, HasNoRoomOf, IsNotPasted};
 
 use crate::handle::Handle;
 use crate::told;
@@ -59,9 +59,8 @@ pub extern "C" fn ansi_screen_title(
     }
 }
 
-/// Writes what a program reads of a key to the front of the room, and how many bytes there are. It answers false where no
-/// screen is held, or memory is wanting, which is taken while they are made: then the number is 0; and where the room has
-/// fewer bytes than the number.
+/// Writes what a program reads of a key to the front of the room, and how many bytes there are: 0, where it reads nothing.
+/// It answers false where no screen is held, with the number 0, and where the room has fewer bytes than the number.
 #[unsafe(no_mangle)]
 pub extern "C" fn ansi_screen_key(
     alloc: Global,
@@ -72,7 +71,7 @@ pub extern "C" fn ansi_screen_key(
 ) -> bool
     ensures text { OnTrue result (Holds (ReadsOf (key_told key.now) room.old room.new written.new) screen.old.value) }
     ensures kept { screen.new.value ≡ screen.old.value }
-    ensures refused { OnFalse result (IsRefusedOf (key_told key.now) room.old written.new screen.old.value) }
+    ensures refused { OnFalse result (HasNoRoomOf (key_told key.now) room.old written.new screen.old.value) }
 {
     match screen.take(alloc) {
         None => {
@@ -80,7 +79,7 @@ pub extern "C" fn ansi_screen_key(
             false
         }
         Some(held) => {
-            let answer = held.key(alloc, *key, room);
+            let answer = held.key(*key, room);
             screen.put(held);
             told(answer, written)
         }
@@ -98,7 +97,7 @@ pub extern "C" fn ansi_screen_mouse(
 ) -> bool
     ensures text { OnTrue result (Holds (ReadsOf (mouse_told mouse.now) room.old room.new written.new) screen.old.value) }
     ensures kept { screen.new.value ≡ screen.old.value }
-    ensures refused { OnFalse result (IsRefusedOf (mouse_told mouse.now) room.old written.new screen.old.value) }
+    ensures refused { OnFalse result (HasNoRoomOf (mouse_told mouse.now) room.old written.new screen.old.value) }
 {
     match screen.take(alloc) {
         None => {
@@ -106,7 +105,7 @@ pub extern "C" fn ansi_screen_mouse(
             false
         }
         Some(held) => {
-            let answer = held.mouse(alloc, *mouse, room);
+            let answer = held.mouse(*mouse, room);
             screen.put(held);
             told(answer, written)
         }
@@ -124,7 +123,7 @@ pub extern "C" fn ansi_screen_focus(
 ) -> bool
     ensures text { OnTrue result (Holds (ReadsOf (focus_told (is_set gained)) room.old room.new written.new) screen.old.value) }
     ensures kept { screen.new.value ≡ screen.old.value }
-    ensures refused { OnFalse result (IsRefusedOf (focus_told (is_set gained)) room.old written.new screen.old.value) }
+    ensures refused { OnFalse result (HasNoRoomOf (focus_told (is_set gained)) room.old written.new screen.old.value) }
 {
     match screen.take(alloc) {
         None => {
@@ -132,7 +131,7 @@ pub extern "C" fn ansi_screen_focus(
             false
         }
         Some(held) => {
-            let answer = held.focus(alloc, gained != 0, room);
+            let answer = held.focus(gained != 0, room);
             screen.put(held);
             told(answer, written)
         }
@@ -150,7 +149,8 @@ pub extern "C" fn ansi_screen_paste(
 ) -> bool
     ensures text { OnTrue result (Holds (ReadsOf (paste_told text.now) room.old room.new written.new) screen.old.value) }
     ensures kept { screen.new.value ≡ screen.old.value }
-    ensures refused { OnFalse result (IsRefusedOf (paste_told text.now) room.old written.new screen.old.value) }
+    ensures utf8 { OnTrue result (IsUtf8 text.now) }
+    ensures refused { OnFalse result (IsNotPasted text.now room.old written.new screen.old.value) }
 {
     *written = 0;
     let Ok(typed) = str::from_utf8(text) else {
@@ -159,7 +159,7 @@ pub extern "C" fn ansi_screen_paste(
     match screen.take(alloc) {
         None => false,
         Some(held) => {
-            let answer = held.paste(alloc, typed, room);
+            let answer = held.paste(typed, room);
             screen.put(held);
             told(answer, written)
         }

@@ -5,6 +5,7 @@ mod enhanced;
 mod legacy;
 mod mouse;
 mod paste;
+mod taking;
 
 use anstyle_parse::io::{Fault, FromWrite, Output};
 use std::alloc::{AllocGlobal, Global};

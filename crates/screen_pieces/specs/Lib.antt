@@ -1,5 +1,6 @@
 pub mod Cells
 pub mod Text
+pub mod PuttingProof
 pub mod Drawing
 pub mod History
 pub mod Keeping

@@ -5,6 +5,7 @@ ghost use Rattle.ansi_screen.specs.Text.{cell_text, marks_text, row_text, text_o
 ghost use Rattle.screen_pieces.specs.Text.{HasText, LacksRoom};
 
 use ansi_screen::{Cell, LeftOut, Marks, Screen, used};
+use terminal_keys::TakeBytes;
 
 /// Puts text into a room that is lent to it, as far as it fits, and counts all of it.
 #[derive(Drop)]
@@ -149,4 +150,19 @@ impl<'a> TextWriter<'a> {
             self.put_byte(b'\n');
         }
     }
+}
+
+/// The text is put.
+impl<'a> TakeBytes for TextWriter<'a> {
+    ghost use Rattle.screen_pieces.specs.Text.{Puts};
+    ghost use Rattle.screen_pieces.specs.PuttingProof.{Puts-nil, Puts-append};
+
+    ghost takes = { Puts };
+
+    #[inline]
+    fn take(&mut self, text: &[u8]) {
+        self.put_bytes(text);
+    }
+
+    ghost joins = { record { none = Puts-nil; more = Puts-append } };
 }

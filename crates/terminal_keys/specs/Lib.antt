@@ -7,3 +7,4 @@ pub mod Enhanced
 pub mod Paste
 pub mod Mouse
 pub mod Laws
+pub mod Taking

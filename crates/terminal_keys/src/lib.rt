@@ -9,6 +9,7 @@ mod modes;
 mod mouse;
 mod paste;
 mod tables;
+mod taking;
 mod text;
 
 pub use ansi_modes::{Encoding, Tracking};
@@ -16,4 +17,5 @@ pub use key::{Event, Key, Modifiers, Navigation, Pad, Stroke};
 pub use modes::{Flags, KeyModes};
 pub use mouse::{Action, Button, Mouse, MouseText, Wheel};
 pub use paste::{focus_text, put_paste};
+pub use taking::TakeBytes;
 pub use text::{KeyText, Sequence};

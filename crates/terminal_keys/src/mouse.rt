@@ -1,13 +1,12 @@
 //! The mouse.
 ghost use Rattle.std.specs.Prelude.{◌≡◌, ◌≤◌, decimal};
-ghost use Rattle.anstyle_parse.specs.Io.Output.{Adds};
 ghost use Rattle.terminal_keys.specs.Mouse.{button_code, wheel_code, action_code, is_released, held_code, is_mouse_told, packed, mouse_code, mouse_written, mouse_text, numbers_text, urxvt_text, last_byte, sgr_text, mouse_bytes};
 
 use crate::key::{Modifiers, bit};
 use crate::modes::KeyModes;
+use crate::taking::TakeBytes;
 use crate::text::put_number;
 use ansi_modes::{Encoding, Tracking};
-use anstyle_parse::io::{Output, Sink};
 
 /// A button.
 #[derive(Debug, Clone, Copy, PartialEq, Eq)]
@@ -207,23 +206,23 @@ impl Mouse {
 }
 
 /// Writes a code, a column and a row, and the byte after them.
-fn put_numbers<W: Sink>(output: &mut Output<W>, code: u8, column: u32, row: u32, last: u8)
-    ensures { Adds W.Sink (numbers_text code column row last) output.old output.new }
+fn put_numbers<T: TakeBytes>(to: &mut T, code: u8, column: u32, row: u32, last: u8)
+    ensures { T.takes (numbers_text code column row last) to.old to.new }
 {
-    put_number(output, u32::from(code));
-    output.put_byte(b';');
-    put_number(output, column);
-    output.put_byte(b';');
-    put_number(output, row);
-    output.put_byte(last);
+    put_number(to, u32::from(code));
+    to.take(b";");
+    put_number(to, column);
+    to.take(b";");
+    put_number(to, row);
+    to.take(&[last]);
 }
 
 /// Writes them after CSI.
-fn put_urxvt<W: Sink>(output: &mut Output<W>, code: u8, column: u32, row: u32)
-    ensures { Adds W.Sink (urxvt_text code column row) output.old output.new }
+fn put_urxvt<T: TakeBytes>(to: &mut T, code: u8, column: u32, row: u32)
+    ensures { T.takes (urxvt_text code column row) to.old to.new }
 {
-    output.put(b"\x1B[");
-    put_numbers(output, code, column, row, b'M');
+    to.take(b"\x1B[");
+    put_numbers(to, code, column, row, b'M');
 }
 
 /// The byte that ends a press or a motion, or a release.
@@ -234,31 +233,29 @@ fn last_byte(is_released: bool) -> u8
 }
 
 /// Writes them after CSI <.
-fn put_sgr<W: Sink>(output: &mut Output<W>, code: u8, column: u32, row: u32, is_released: bool)
-    ensures { Adds W.Sink (sgr_text code column row is_released) output.old output.new }
+fn put_sgr<T: TakeBytes>(to: &mut T, code: u8, column: u32, row: u32, is_released: bool)
+    ensures { T.takes (sgr_text code column row is_released) to.old to.new }
 {
-    output.put(b"\x1B[<");
-    put_numbers(output, code, column, row, last_byte(is_released));
+    to.take(b"\x1B[<");
+    put_numbers(to, code, column, row, last_byte(is_released));
 }
 
 impl MouseText {
     /// Writes its bytes.
-    pub fn write<W: Sink>(self, output: &mut Output<W>)
-        ensures { Adds W.Sink (mouse_bytes self) output.old output.new }
+    pub fn write<T: TakeBytes>(self, to: &mut T)
+        ensures { T.takes (mouse_bytes self) to.old to.new }
     {
         match self {
-            MouseText::Nothing => output.pass_on(),
-            MouseText::Bytes(code, column, row) => output.put(&[
-                0x1B, b'[', b'M', code, column, row,
-            ]),
+            MouseText::Nothing => {}
+            MouseText::Bytes(code, column, row) => to.take(&[0x1B, b'[', b'M', code, column, row]),
             MouseText::Sgr(code, column, row, is_released) => put_sgr(
-                output,
+                to,
                 code,
                 column,
                 row,
                 is_released,
             ),
-            MouseText::Urxvt(code, column, row) => put_urxvt(output, code, column, row),
+            MouseText::Urxvt(code, column, row) => put_urxvt(to, code, column, row),
         }
     }
 }

@@ -1,13 +1,12 @@
 //! What is pasted, and the focus.
 ghost use Rattle.std.specs.Prelude.{◌≡◌};
-ghost use Rattle.anstyle_parse.specs.Io.Output.{Adds};
 ghost use Rattle.terminal_keys.specs.Paste.{is_pasted, pasted_character, pasted, bracketed, paste_text, focus_text};
 
 use crate::key::is_typed;
 use crate::legacy::with_number;
 use crate::modes::KeyModes;
+use crate::taking::{TakeBytes, put_char};
 use crate::text::KeyText;
-use anstyle_parse::io::{Output, Sink};
 
 /// Whether a character is pasted: TAB, LF and CR are, and no other control.
 fn is_pasted(character: char) -> bool
@@ -17,43 +16,41 @@ fn is_pasted(character: char) -> bool
 }
 
 /// Writes a character, where it is pasted.
-fn put_pasted_character<W: Sink>(output: &mut Output<W>, character: char)
-    ensures { Adds W.Sink (pasted_character character) output.old output.new }
+fn put_pasted_character<T: TakeBytes>(to: &mut T, character: char)
+    ensures { T.takes (pasted_character character) to.old to.new }
 {
     if is_pasted(character) {
-        output.put_char(character);
-    } else {
-        output.pass_on();
+        put_char(to, character);
     }
 }
 
 /// Writes what is pasted of a text.
-fn put_pasted<W: Sink>(output: &mut Output<W>, text: &str)
-    ensures { Adds W.Sink (pasted text.now) output.old output.new }
+fn put_pasted<T: TakeBytes>(to: &mut T, text: &str)
+    ensures { T.takes (pasted text.now) to.old to.new }
 {
     for character in text.chars() {
-        put_pasted_character(output, character);
+        put_pasted_character(to, character);
     }
 }
 
 /// Writes the same in brackets.
-fn put_bracketed<W: Sink>(output: &mut Output<W>, text: &str)
-    ensures { Adds W.Sink (bracketed text.now) output.old output.new }
+fn put_bracketed<T: TakeBytes>(to: &mut T, text: &str)
+    ensures { T.takes (bracketed text.now) to.old to.new }
 {
-    output.put(b"\x1B[200~");
-    put_pasted(output, text);
-    output.put(b"\x1B[201~");
+    to.take(b"\x1B[200~");
+    put_pasted(to, text);
+    to.take(b"\x1B[201~");
 }
 
 /// Writes a text as a terminal pastes it: without controls but TAB, LF and CR, and in brackets where the program asked
 /// for them. So no text ends its bracket.
-pub fn put_paste<W: Sink>(output: &mut Output<W>, text: &str, modes: KeyModes)
-    ensures { Adds W.Sink (paste_text text.now modes.paste) output.old output.new }
+pub fn put_paste<T: TakeBytes>(to: &mut T, text: &str, modes: KeyModes)
+    ensures { T.takes (paste_text text.now modes.paste) to.old to.new }
 {
     if modes.paste {
-        put_bracketed(output, text);
+        put_bracketed(to, text);
     } else {
-        put_pasted(output, text);
+        put_pasted(to, text);
     }
 }
 

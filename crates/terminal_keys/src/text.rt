@@ -1,9 +1,8 @@
 //! What a key is to a program, by its numbers, and the bytes of these.
 ghost use Rattle.std.specs.Prelude.{◌≡◌, ◌∷◌, decimal};
-ghost use Rattle.anstyle_parse.specs.Io.Output.{Adds};
 ghost use Rattle.terminal_keys.specs.Text.{part, is_short, number_text, has_second, told_event, second_text, modifiers_text, sequence_text, held_text, single_text, escape_text, typed_text, key_bytes};
 
-use anstyle_parse::io::{Output, Sink};
+use crate::taking::{TakeBytes, put_char};
 
 /// The numbers of a control sequence that tells a key.
 #[derive(Debug, Clone, Copy, PartialEq, Eq)]
@@ -36,31 +35,29 @@ pub enum KeyText {
 }
 
 /// Writes a number in decimal, without leading zeros.
-pub(crate) fn put_number<W: Sink>(output: &mut Output<W>, number: u32)
-    ensures { Adds W.Sink (decimal number) output.old output.new }
+pub(crate) fn put_number<T: TakeBytes>(to: &mut T, number: u32)
+    ensures { T.takes (decimal number) to.old to.new }
 {
     if number >= 10 {
-        put_number(output, number / 10);
+        put_number(to, number / 10);
     }
-    output.put_byte(b'0' + (number % 10) as u8);
+    to.take(&[b'0' + (number % 10) as u8]);
 }
 
 /// Writes a mark and a number.
-fn put_marked<W: Sink>(output: &mut Output<W>, mark: u8, number: u32)
-    ensures { Adds W.Sink (mark ∷ decimal number) output.old output.new }
+fn put_marked<T: TakeBytes>(to: &mut T, mark: u8, number: u32)
+    ensures { T.takes (mark ∷ decimal number) to.old to.new }
 {
-    output.put_byte(mark);
-    put_number(output, number);
+    to.take(&[mark]);
+    put_number(to, number);
 }
 
 /// Writes a mark and a number; nothing, where it is 0.
-fn put_part<W: Sink>(output: &mut Output<W>, mark: u8, number: u32)
-    ensures { Adds W.Sink (part mark number) output.old output.new }
+fn put_part<T: TakeBytes>(to: &mut T, mark: u8, number: u32)
+    ensures { T.takes (part mark number) to.old to.new }
 {
-    if number == 0 {
-        output.pass_on();
-    } else {
-        put_marked(output, mark, number);
+    if number != 0 {
+        put_marked(to, mark, number);
     }
 }
 
@@ -95,99 +92,91 @@ impl Sequence {
     }
 
     /// Writes the number of the key.
-    fn put_key<W: Sink>(self, output: &mut Output<W>)
-        ensures { Adds W.Sink (number_text self) output.old output.new }
+    fn put_key<T: TakeBytes>(self, to: &mut T)
+        ensures { T.takes (number_text self) to.old to.new }
     {
-        if self.is_short() {
-            output.pass_on();
-        } else {
-            put_number(output, self.number);
+        if !self.is_short() {
+            put_number(to, self.number);
         }
     }
 
     /// Writes modifiers and what happens, which are told.
-    fn put_second<W: Sink>(self, output: &mut Output<W>)
-        ensures { Adds W.Sink (second_text self) output.old output.new }
+    fn put_second<T: TakeBytes>(self, to: &mut T)
+        ensures { T.takes (second_text self) to.old to.new }
     {
-        put_marked(output, b';', u32::from(self.modifiers));
-        put_part(output, b':', self.told_event());
+        put_marked(to, b';', u32::from(self.modifiers));
+        put_part(to, b':', self.told_event());
     }
 
     /// Writes modifiers and what happens, where they are told, or where a text is.
-    fn put_modifiers<W: Sink>(self, output: &mut Output<W>)
-        ensures { Adds W.Sink (modifiers_text self) output.old output.new }
+    fn put_modifiers<T: TakeBytes>(self, to: &mut T)
+        ensures { T.takes (modifiers_text self) to.old to.new }
     {
         if self.has_second() {
-            self.put_second(output);
-        } else if self.text == 0 {
-            output.pass_on();
-        } else {
-            output.put_byte(b';');
+            self.put_second(to);
+        } else if self.text != 0 {
+            to.take(b";");
         }
     }
 
     /// Writes it.
-    fn write<W: Sink>(self, output: &mut Output<W>)
-        ensures { Adds W.Sink (sequence_text self) output.old output.new }
+    fn write<T: TakeBytes>(self, to: &mut T)
+        ensures { T.takes (sequence_text self) to.old to.new }
     {
-        output.put(b"\x1B[");
-        self.put_key(output);
-        put_part(output, b':', self.shifted);
-        self.put_modifiers(output);
-        put_part(output, b';', self.text);
-        output.put_byte(self.last);
+        to.take(b"\x1B[");
+        self.put_key(to);
+        put_part(to, b':', self.shifted);
+        self.put_modifiers(to);
+        put_part(to, b';', self.text);
+        to.take(&[self.last]);
     }
 }
 
 /// Writes the number of modifiers, where it is not 1.
-fn put_held<W: Sink>(output: &mut Output<W>, modifiers: u16)
-    ensures { Adds W.Sink (held_text modifiers) output.old output.new }
+fn put_held<T: TakeBytes>(to: &mut T, modifiers: u16)
+    ensures { T.takes (held_text modifiers) to.old to.new }
 {
-    if modifiers == 1 {
-        output.pass_on();
-    } else {
-        put_number(output, u32::from(modifiers));
+    if modifiers != 1 {
+        put_number(to, u32::from(modifiers));
     }
 }
 
 /// Writes SS3, the number of the modifiers where it is not 1, and a byte.
-fn put_single<W: Sink>(output: &mut Output<W>, modifiers: u16, last: u8)
-    ensures { Adds W.Sink (single_text modifiers last) output.old output.new }
+fn put_single<T: TakeBytes>(to: &mut T, modifiers: u16, last: u8)
+    ensures { T.takes (single_text modifiers last) to.old to.new }
 {
-    output.put(b"\x1BO");
-    put_held(output, modifiers);
-    output.put_byte(last);
+    to.take(b"\x1BO");
+    put_held(to, modifiers);
+    to.take(&[last]);
 }
 
 /// Writes ESC, or not.
-fn put_escape<W: Sink>(output: &mut Output<W>, wanted: bool)
-    ensures { Adds W.Sink (escape_text wanted) output.old output.new }
+fn put_escape<T: TakeBytes>(to: &mut T, wanted: bool)
+    ensures { T.takes (escape_text wanted) to.old to.new }
 {
     if wanted {
-        output.put_byte(0x1B);
-    } else {
-        output.pass_on();
+        to.take(&[0x1B]);
     }
 }
 
 /// Writes a character, and before it ESC or not.
-fn put_typed<W: Sink>(output: &mut Output<W>, character: char, after_escape: bool)
-    ensures { Adds W.Sink (typed_text character after_escape) output.old output.new }
+fn put_typed<T: TakeBytes>(to: &mut T, character: char, after_escape: bool)
+    ensures { T.takes (typed_text character after_escape) to.old to.new }
 {
-    put_escape(output, after_escape);
-    output.put_char(character);
+    put_escape(to, after_escape);
+    put_char(to, character);
 }
 
 impl KeyText {
     /// Writes its bytes.
-    pub fn write<W: Sink>(self, output: &mut Output<W>)
-        ensures { Adds W.Sink (key_bytes self) output.old output.new }
+    pub fn write<T: TakeBytes>(self, to: &mut T)
+        ensures { T.takes (key_bytes self) to.old to.new }
     {
         match self {
-            KeyText::Nothing => output.pass_on(),
-            KeyText::Typed(character, after_escape) => put_typed(output, character, after_escape),
-            KeyText::Single(modifiers, last) => put_single(output, modifiers, last),
-            KeyText::Control(sequence) => sequence.write(output),
+            KeyText::Nothing => {}
+            KeyText::Typed(character, after_escape) => put_typed(to, character, after_escape),
+            KeyText::Single(modifiers, last) => put_single(to, modifiers, last),
+            KeyText::Control(sequence) => sequence.write(to),
         }
     }
 }

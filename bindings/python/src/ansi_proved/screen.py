@@ -624,8 +624,8 @@ class Screen:
         given = _key_of(name, shifted, event, held)
         return self._made_by(bytes, _key, ctypes.addressof(given))
 
-    def mouse(self, action, column, row, *, button="", x=0, y=0, **held):
-        """The same of the mouse: "press", "release" or "move" at a column and a row, of a button or of the wheel as BUTTONS names it,
+    def mouse(self, action, row, column, *, button="", x=0, y=0, **held):
+        """The same of the mouse: "press", "release" or "move" at a row and a column, of a button or of the wheel as BUTTONS names it,
         or of none. x, y: the pixel, for programs that ask for it (1016)."""
         given = MouseBytes(column=column, row=row, x=x, y=y, modifiers=_modifiers_of(held))
         given.action, given.button = 1 + _place_in(ACTIONS, action, "what the mouse does"), _place_in(BUTTONS, button, "a button")

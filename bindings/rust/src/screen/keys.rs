@@ -394,8 +394,7 @@ impl Screen {
         })
     }
 
-    /// The bytes that a program reads of a key, by what it asked for; none where that is nothing. Memory is taken while they are made;
-    /// where there is none, there are none.
+    /// The bytes that a program reads of a key, by what it asked for; none where that is nothing.
     pub fn key(&self, key: Key, held: Held, event: Event) -> Vec<u8> {
         let (number, character, shifted) = key.numbers();
         let given = KeyBytes {

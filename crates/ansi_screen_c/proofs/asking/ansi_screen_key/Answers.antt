@@ -1,6 +1,6 @@
 -- What was held is read.
 use Rattle.screen_pieces.specs.Telling.{key_told}
-use Rattle.ansi_screen_c.specs.Calls.{Holds, ReadsOf, IsRefusedOf}
+use Rattle.ansi_screen_c.specs.Calls.{Holds, ReadsOf, HasNoRoomOf}
 use Rattle.ansi_screen_c.proofs.ToldLemmas.{is-told, is-refused}
 use Rattle.ansi_screen_c.proofs.asking.ansi_screen_key.Goals as goal
 
@@ -12,6 +12,6 @@ returns-in-Some-clause-text c =
 
 pub returns-in-Some-clause-refused : goal.returns-in-Some-clause-refused
 returns-in-Some-clause-refused c =
-    is-refused (λ n was. IsRefusedOf (key_told c.args.key.now) c.args.room.now n was) c.key-answer.result c.in-Some.held.value
+    is-refused (λ n was. HasNoRoomOf (key_told c.args.key.now) c.args.room.now n was) c.key-answer.result c.in-Some.held.value
     c.deref.result.now c.args.screen.now.value c.in-Some.ensures.taken c.deref.ensures c.told.result c.told.new.written
     c.told.ensures.err c.key-answer.ensures.refused

@@ -1,24 +1,23 @@
 -- The digits before the last are written first, if there are any.
-use Rattle.std.proofs.Common.{◌/◌, decimal, arith, sym, subst}
-use Rattle.anstyle_parse.specs.declared.io.output.Output.{Output}
-use Rattle.anstyle_parse.specs.Io.Output.{Adds}
-use Rattle.anstyle_parse.proofs.Written.Output.{Adds-decimal_digit, Adds-decimal_step}
+use Rattle.std.proofs.Common.{◌≡◌, ◌+◌, ◌/◌, ◌%◌, [], ◌∷◌, decimal, arith, sym, ap, ◌∙◌, subst}
+use Rattle.std.proofs.lemmas.Fmt.{decimal_step, decimal_digit}
 use Rattle.terminal_keys.proofs.text.+put_number.Goals as goal
 use Rattle.terminal_keys.proofs.text.+put_number.Goals.{then-number-ge10, else-number-ge10}
 
 pub returns : goal.returns
 returns g t c =
-    let sink = g.W.Sink in
+    let takes = g.T.TakeBytes.takes in
     let n = c.args.number in
-    let between = c.if-number-ge10.output in
-    let after = c.put_byte.new.self in
+    let digit = (48 + n % 10) ∷ [] in
+    let between = c.if-number-ge10.to in
+    let after = c.take.new.self in
     elim c.if-number-ge10.branch [
       | then-number-ge10 w ↦
-          let Q : Output g.row.W.Denot → Type 0 = λ o. Adds sink (decimal (n / 10)) c.args.output.now o in
-          Adds-decimal_step sink n c.args.output.now between after
-          (omega (arith, w.if-number-ge10.true)) (omega (arith, c.ranges.number.fits))
-          (subst Q (sym w.output-is) w.put_number.ensures) c.put_byte.ensures
+          let before = subst (λ it. takes (decimal (n / 10)) c.args.to.now it) (sym w.to-is) w.put_number.ensures in
+          subst (λ text. takes text c.args.to.now after) (sym (decimal_step n (omega (arith, w.if-number-ge10.true)) (omega (arith, c.ranges.number.fits))))
+          (g.met.T.TakeBytes.joins.more (decimal (n / 10)) digit c.args.to.now between after before c.take.ensures)
       | else-number-ge10 w ↦
-          let Q : Output g.row.W.Denot → Type 0 = λ o. Adds sink (decimal n) o after in
-          subst Q w.output-is (Adds-decimal_digit sink n between after (omega (arith, w.if-number-ge10.false)) c.put_byte.ensures)
+          let same : n % 10 ≡ n = omega (arith, w.if-number-ge10.false) in
+          let one : digit ≡ decimal n = ap (λ k. (48 + k) ∷ []) same ∙ sym (decimal_digit n (omega (arith, w.if-number-ge10.false))) in
+          subst (λ it. takes (decimal n) it after) w.to-is (subst (λ text. takes text between after) one c.take.ensures)
     ]

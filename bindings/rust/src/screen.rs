@@ -25,10 +25,12 @@
 //! [`Screen::focus`] while they work.
 
 mod keys;
+mod parts;
 
 pub use keys::{
     Action, Asked, Button, Encoding, Event, Held, Key, Mouse, Move, Pad, Shape, Tracking, Wheel,
 };
+pub use parts::{Charsets, Saved, color_rgb};
 
 use crate::Styling;
 use alloc::string::String;

@@ -38,7 +38,7 @@ place_numbered which d =
 -- These are the bytes of the place of a number. A wrap is pending where its column is the number of columns.
 pub record HasPlace (which : ℕ) (bytes : PlaceBytes) (terminal : Terminal) : Type 0 where
   pub place : place_numbered which (display_of terminal) ≡ Some (place_in bytes)
-  pub pending : is_set bytes.wraps_next ≡ (bytes.column == (display_of terminal).width)
+  pub pending : is_set bytes.wrap_pending ≡ (bytes.column == (display_of terminal).width)
 
 -- A byte for each column stands at the front of the room, which is set where a tab stops; the rest is as it was.
 pub record HasStops (room room_after : List ℕ) (terminal : Terminal) : Type 0 where

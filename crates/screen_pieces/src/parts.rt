@@ -24,7 +24,7 @@ pub struct PlaceBytes {
     /// Lines are counted from the upper margin (DECOM). `row` counts from the screen's first row.
     pub has_origin: u8,
     /// The last column was printed, and a wrap is pending: the column is the number of columns.
-    pub wraps_next: u8,
+    pub wrap_pending: u8,
     /// G0, and G1, is the line drawing set; else letters.
     pub g0_draws: u8,
     pub g1_draws: u8,
@@ -37,14 +37,14 @@ impl PlaceBytes {
     /// The bytes of a place on a screen of so many columns.
     fn of(place: Place, columns: usize) -> PlaceBytes
         ensures place { place_in result ≡ place }
-        ensures pending { is_set result.wraps_next ≡ (place.column == columns) }
+        ensures pending { is_set result.wrap_pending ≡ (place.column == columns) }
     {
         PlaceBytes {
             row: place.row,
             column: place.column,
             style: StyleBytes::of(place.style),
             has_origin: flag(place.is_relative),
-            wraps_next: flag(place.column == columns),
+            wrap_pending: flag(place.column == columns),
             g0_draws: flag(place.charsets.g0_draws),
             g1_draws: flag(place.charsets.g1_draws),
             uses_g1: flag(place.charsets.uses_g1),

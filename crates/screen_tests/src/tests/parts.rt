@@ -20,13 +20,13 @@ fn told(terminal: &Terminal, which: u8) -> Option<Told> {
         column,
         style: StyleBytes { bold, .. },
         has_origin,
-        wraps_next,
+        wrap_pending,
         g0_draws,
         g1_draws,
         uses_g1,
         ..
     } = terminal.place(which)?;
-    let flags = [bold, has_origin, wraps_next, g0_draws, g1_draws, uses_g1];
+    let flags = [bold, has_origin, wrap_pending, g0_draws, g1_draws, uses_g1];
     Some((row, column, flags))
 }
 

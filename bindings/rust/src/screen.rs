@@ -30,7 +30,7 @@ mod parts;
 pub use keys::{
     Action, Asked, Button, Encoding, Event, Held, Key, Mouse, Move, Pad, Shape, Tracking, Wheel,
 };
-pub use parts::{Charsets, Saved, color_rgb};
+pub use parts::{color_rgb, Charsets, Saved};
 
 use crate::Styling;
 use alloc::string::String;

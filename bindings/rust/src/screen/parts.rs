@@ -1,6 +1,6 @@
 //! What decides on a screen beside what shows: places of the cursor, margins, tab stops and hidden rows; and the colours of numbers.
 
-use super::{Cell, CellBytes, Handle, Place, Screen, Style, StyleBytes, cell_of, style_of};
+use super::{cell_of, style_of, Cell, CellBytes, Handle, Place, Screen, Style, StyleBytes};
 use alloc::vec::{self, Vec};
 use core::ops::Range;
 

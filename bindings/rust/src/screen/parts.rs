@@ -61,24 +61,26 @@ pub struct Saved {
 impl Screen {
     /// The cursor with all that DECSC would save.
     pub fn state(&self) -> Saved {
-        self.numbered(0).expect("a screen has a cursor")
+        self.numbered(0).1
     }
 
     /// What DECSC saved on the screen that shows; where nothing was, the top left, plain.
     pub fn saved(&self) -> Saved {
-        self.numbered(1).expect("a screen has a saved cursor")
+        self.numbered(1).1
     }
 
     /// While the alternate screen shows, what is saved on the main one: where the cursor was (1049), and goes back to.
     pub fn hidden_saved(&self) -> Option<Saved> {
-        self.numbered(2)
+        let (is_there, saved) = self.numbered(2);
+        is_there.then_some(saved)
     }
 
-    fn numbered(&self, which: u8) -> Option<Saved> {
+    /// The place of a number, and whether there is one.
+    fn numbered(&self, which: u8) -> (bool, Saved) {
         let mut bytes = PlaceBytes::default();
         let is_there = unsafe { ansi_screen_place(self.handle(), which, &raw mut bytes) };
         let [origin, wrap_pending, g0_draws, g1_draws, uses_g1] = bytes.flags.map(|it| it != 0);
-        is_there.then(|| Saved {
+        let saved = Saved {
             place: Place {
                 row: bytes.row,
                 column: bytes.column,
@@ -91,7 +93,8 @@ impl Screen {
                 g1_draws,
                 uses_g1,
             },
-        })
+        };
+        (is_there, saved)
     }
 
     /// The rows that scroll (DECSTBM), counted from 0.

@@ -2,7 +2,7 @@
 //! pages; and xterm's colours.
 use super::{assert_same, fed};
 use ansi_html::contrast::Rgb;
-use screen_pieces::{CellBytes, PlaceBytes, StyleBytes, Terminal, color_rgb};
+use screen_pieces::{CellBytes, PlaceBytes, RESERVED_PLACE, StyleBytes, Terminal, color_rgb};
 use std::alloc::{AllocError, AllocGlobal, Global};
 use std::process::Abort;
 use std::test::Fail;
@@ -11,8 +11,9 @@ fn shown(alloc: Global, stream: &[u8]) -> Result<Terminal, AllocError> {
     Ok(fed(Terminal::new(alloc, 10, 6)?, stream))
 }
 
-/// Row, column and whether it is bold of a place; then origin, a pending wrap, G0, G1 and which of them is used.
-type Told = (usize, usize, [u8; 6]);
+/// Row and column of a place; whether it is bold, in origin mode, with a pending wrap, G0, G1 and which of them is used; and
+/// what is reserved.
+type Told = (usize, usize, [u8; 6], [u8; RESERVED_PLACE]);
 
 fn told(terminal: &Terminal, which: u8) -> Option<Told> {
     let PlaceBytes {
@@ -24,10 +25,10 @@ fn told(terminal: &Terminal, which: u8) -> Option<Told> {
         g0_draws,
         g1_draws,
         uses_g1,
-        ..
+        reserved,
     } = terminal.place(which)?;
     let flags = [bold, has_origin, wrap_pending, g0_draws, g1_draws, uses_g1];
-    Some((row, column, flags))
+    Some((row, column, flags, reserved))
 }
 
 fn assert_place(rt: &impl Abort, terminal: &Terminal, which: u8, wanted: Option<Told>) {
@@ -69,14 +70,17 @@ fn assert_color(rt: &impl Abort, index: u8, wanted: Rgb) {
 // DECSC keeps the style, origin mode, sets and a pending wrap.
 #[test]
 fn places(rt: HostRuntime) -> Result<(), Fail> {
-    let terminal = shown(rt.alloc(), b"\x1B[2;5r\x1B[?6h\x1B[2;3H\x1B[1m\x1B)0\x0E\x1B7\x1B[m\x0F\x1B[?6l0123456789")?;
-    assert_place(&rt, &terminal, 0, Some((0, 10, [0, 0, 1, 0, 1, 0])));
-    assert_place(&rt, &terminal, 1, Some((2, 2, [1, 1, 0, 0, 1, 1])));
+    let terminal = shown(
+        rt.alloc(),
+        b"\x1B[2;5r\x1B[?6h\x1B[2;3H\x1B[1m\x1B)0\x0E\x1B7\x1B[m\x0F\x1B[?6l0123456789",
+    )?;
+    assert_place(&rt, &terminal, 0, Some((0, 10, [0, 0, 1, 0, 1, 0], [0; 2])));
+    assert_place(&rt, &terminal, 1, Some((2, 2, [1, 1, 0, 0, 1, 1], [0; 2])));
     assert_place(&rt, &terminal, 2, None);
     assert_margins(&rt, &terminal, (1, 5));
     let terminal = fed(terminal, b"\x1B[?1049h");
-    assert_place(&rt, &terminal, 1, Some((0, 0, [0; 6])));
-    assert_place(&rt, &terminal, 2, Some((0, 10, [0, 0, 1, 0, 1, 0])));
+    assert_place(&rt, &terminal, 1, Some((0, 0, [0; 6], [0; 2])));
+    assert_place(&rt, &terminal, 2, Some((0, 10, [0, 0, 1, 0, 1, 0], [0; 2])));
     assert_place(&rt, &terminal, 3, None);
     drop(terminal);
     Ok(())

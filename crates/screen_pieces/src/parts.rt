@@ -7,7 +7,7 @@ ghost use Rattle.screen_pieces.specs.Parts.{place_in, place_numbered, HasPlace, 
 
 use crate::cell::{CellBytes, put_cells};
 use crate::terminal::Terminal;
-use ansi_screen::Place;
+use ansi_screen::{Place, Screen};
 use ansi_style::bytes::{StyleBytes, flag};
 
 /// How many bytes of a place are kept for later: they are 0.
@@ -37,7 +37,7 @@ impl PlaceBytes {
     /// The bytes of a place on a screen of so many columns.
     fn of(place: Place, columns: usize) -> PlaceBytes
         ensures place { place_in result ≡ place }
-        ensures pending { is_set result.wrap_pending ≡ (place.column == columns) }
+        ensures pending { is_set result.wrap_pending ≡ (result.column == columns) }
     {
         PlaceBytes {
             row: place.row,
@@ -62,6 +62,14 @@ fn put_flags(flags: &[bool], room: &mut [u8])
     for (place, is) in flags.iter().enumerate() {
         room[place] = flag(*is);
     }
+}
+
+/// For each column of a screen, whether a tab stops there.
+fn stops(screen: &Screen) -> &[bool]
+    ensures stops { result.now ≡ screen.now.display.tabs }
+    ensures columns { length result.now ≡ screen.now.display.width }
+{
+    screen.stops()
 }
 
 impl Terminal {
@@ -102,7 +110,7 @@ impl Terminal {
         if room.len() < self.screen().columns() {
             return false;
         }
-        put_flags(self.screen().stops(), room);
+        put_flags(stops(self.screen()), room);
         true
     }
 

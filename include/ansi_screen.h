@@ -128,6 +128,25 @@ typedef struct ansi_modes {
     uint8_t reserved[1];      /* 0 */
 } ansi_modes;
 
+/* The places of a screen, by the numbers that ansi_screen_place takes. */
+enum {
+    ANSI_PLACE_CURSOR = 0,
+    ANSI_PLACE_SAVED = 1, /* what DECSC saved on the screen that shows: where nothing was, the top left, plain */
+    ANSI_PLACE_HIDDEN = 2 /* the main screen's while the alternate one shows: where the cursor was (1049), and goes back to */
+};
+
+/* A place of the cursor, and what DECSC saves with it, in 40 bytes: each from `origin` on is 1 where it is so, else 0. */
+typedef struct ansi_place {
+    size_t row, column;   /* from the screen's first row and column on */
+    ansi_style style;     /* of what comes next */
+    uint8_t origin;       /* DECOM */
+    uint8_t wrap_pending; /* the last column was printed: `column` is the number of columns */
+    uint8_t g0_draws;     /* G0 is the line drawing set, and not letters */
+    uint8_t g1_draws;     /* the same of G1 */
+    uint8_t uses_g1;      /* characters are those of G1 (SO), and not of G0 (SI) */
+    uint8_t reserved[2];  /* 0 */
+} ansi_place;
+
 /* What a screen keeps beside what it shows, in 64 bytes: zero bytes are nothing (`= {0}` in C, `= {}` in C++). */
 typedef struct ansi_screen_options {
     size_t history;     /* so many of the last rows that leave it, of about 40 bytes a cell */
@@ -254,6 +273,10 @@ bool ansi_screen_copy(ansi_screen *copy, ansi_screen *screen);
 /* Frees the screen: then none is held. Closing it again does nothing. */
 void ansi_screen_close(ansi_screen *screen);
 
+/* Writes the red, green and blue of one of xterm's 256 colours, as xterm has them at first: its eight, the same in bright, a cube
+ * and greys. */
+void ansi_screen_color_rgb(uint8_t number, uint8_t rgb[3]);
+
 /* All functions from here on answer false where no screen is held. Then, and wherever else they answer false, the screen
  * is as it was, and nothing is written but where that is said. */
 
@@ -282,6 +305,19 @@ bool ansi_screen_cell(ansi_screen *screen, size_t row, size_t column, ansi_cell 
 /* Writes the cells of a row, counted from 0, to the front of `cells`, which has room for `count`. Answers false where there
  * is no such row, and where `count` is less than the number of columns. */
 bool ansi_screen_row(ansi_screen *screen, size_t row, ansi_cell *cells, size_t count);
+
+/* Writes a place of the screen, by its number. Autowrap is not saved. Answers false where there is none of the number. */
+bool ansi_screen_place(ansi_screen *screen, unsigned char which, ansi_place *place);
+
+/* Writes the margins (DECSTBM), counted from 0: the rows from `top` up to `bottom`, which is not among them, scroll. */
+bool ansi_screen_margins(ansi_screen *screen, size_t *top, size_t *bottom);
+
+/* Writes a byte for each column to the front of `stops`, which has `count`: 1 where a tab stops there, else 0. Answers false
+ * where `count` is less than the number of columns. */
+bool ansi_screen_stops(ansi_screen *screen, uint8_t *stops, size_t count);
+
+/* As ansi_screen_row, of the main screen while the alternate one shows. Answers false also where the main one does. */
+bool ansi_screen_hidden_row(ansi_screen *screen, size_t row, ansi_cell *cells, size_t count);
 
 /* Writes which cells of a row, counted from 0, can have changed since ansi_screen_forget was called: those of the columns from
  * `first` up to `past`, which is not among them; where none can have, both are the same. Each that has changed is among them:
@@ -332,7 +368,7 @@ bool ansi_screen_update(ansi_screen *shown, ansi_screen *wanted, unsigned char *
 bool ansi_screen_html(ansi_screen *screen, unsigned char styling, unsigned char *room, size_t size, size_t *written);
 
 /* Answers whether both screens show the same: as many columns and rows, the same cells, the cursor, with the style of what comes
- * next, and modes, but for what was asked for. What is not told here does not count, as margins, tabs and rows that left. Links and which rows go on do, by the
+ * next, and modes, but for what was asked for. Margins, tabs, what is saved, character sets and rows that left do not count. Links and which rows go on do, by the
  * cells: so a screen that was fed a drawing or an update, which leave them out, is not equal to one that has some. */
 bool ansi_screen_equal(ansi_screen *one, ansi_screen *other);
 

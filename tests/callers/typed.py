@@ -6,7 +6,8 @@ import sys
 from typing import Dict, Hashable, Iterator, List, Sequence, Set, Tuple
 
 import ansi_proved
-from ansi_proved import STYLINGS, Cell, Color, Csi, Cursor, Esc, Execute, History, Hook, Modes, Osc, Put, Screen, Style, Text, Unhook
+from ansi_proved import STYLINGS, Cell, Color, Csi, Cursor, Esc, Execute, History, Hook, Modes, Osc, Place, Put, Screen, Style, Text, Unhook
+from ansi_proved import color_rgb
 
 flag: bool = True
 text: str = ansi_proved.strip("a")
@@ -122,6 +123,13 @@ with Screen(120, 40, history=100) as screen:
     columns: Tuple[int, int, int] = screen.changes()[0]
     cursor: Cursor = screen.cursor
     modes: Modes = screen.modes
+    place: Place = screen.place
+    flag = screen.saved.style.bold
+    numbers = screen.stops + [screen.margins.top, screen.margins.bottom, place.row]
+    columns = color_rgb(196)
+    row = screen.hidden_row(0) or []
+    screen.hidden_saved.row  # wrong
+    color_rgb("red")  # wrong
     asked: Set[str] = screen.asked()
     read: bytes = screen.key("up", ctrl=True) + screen.mouse("press", 0, 0, button="left") + screen.paste(screen.title) + screen.focus(False)
     style: Style = cell.style

@@ -75,6 +75,8 @@ PHRASES = {
         *MODES_ASKED, "1004: the focus", "2004: what is pasted", "2026: what is shown", SHAPES + ". {OFF}.", "5, where num lock is off", "a function key, 1 to 24",
         "a key, in {ansi_key} bytes", "that is known; else 0", "the mouse does, in {ansi_mouse} bytes", "columns, rows and pixels count from 0", BUTTONS, "and at most {MAX_TEXT} bytes",
         "they answer true, and written is 0", "answers false, and written is 0, where the text", "where gained is 0",
+        "decsc saves with it, in {ansi_place} bytes: each from origin on is {ON} where it is so, else {OFF}", "letters. the same of g1. characters are those of g1 (so), and not of g0 (si). {OFF}.",
+        "where the cursor was (1049)", "margins (decstbm), counted from {FIRST}", "which has count: {ON} where a tab stops there, else {OFF}", "one of xterm's 256 colours",
         "what it shows, in {ansi_screen_options} bytes", "about {CELL} bytes a cell. 0.", "where the cursor is, counted from {FIRST}", "its row and its column, counted from {FIRST}",
         "the cells of a row, counted from {FIRST}", "which cells of a row, counted from {FIRST}", "or part, and written is 0", ". a row, counted from {FIRST}",
         "has bytes from {LOWEST} to {HIGHEST} alone", "the last {LINKS} links that began are kept", "it answers true, and written is 0", "answer false, and written is 0",
@@ -91,6 +93,8 @@ PHRASES = {
         "ansi_modes has, in {ansi_modes} bytes", "screen shows (1049)", "lines are counted from the upper margin", "reserved[{RESERVED_MODES}]\" 0",
         *MODES_ASKED, SHAPES, "focus is told (1004)", "in brackets (2004)", "this ends (2026)", "gained is 0", "ansi_key has, in {ansi_key} bytes", "ansi_mouse has, in {ansi_mouse} bytes",
         "that is known; else 0", "uint8_t reserved\" 0", "5, where num lock is off", "a function key, 1 to 24", BUTTONS, "column\" counted from {FIRST}",
+        "one of xterm's 256 colours", "each column, {ON} where a tab stops there, else {OFF}", "ansi_place has, in {ansi_place} bytes, of which those from origin on are {ON} where it is so, else {OFF}",
+        "row\" counted from the first of the screen", "reserved[{RESERVED_PLACE}]\" {OFF}", "where the cursor was (1049)",
         *("ansi_%s (%d)" % it for it in screen_cells.NUMBERED), "ansi_screen_options has, in {ansi_screen_options} bytes",
         "about {CELL} bytes a cell", "reserved[{RESERVED_OPTIONS}]\" 0", "ansi_screen has, in {ansi_screen} bytes", "their length. else it is 0",
         *("%s (%d)" % (name, number) for kind in (screen_cells.KINDS, screen_cells.PARTS) for number, name in enumerate(kind)),
@@ -123,7 +127,7 @@ CONSTANTS = {
     "event_pieces/src/event": ["MAX_INTERMEDIATES"], "html_pieces/src/state": ["MAX_LINK"], "html_pieces/src/feeding": ["CAPACITY", "MOST_TAKEN"],
     "screen_html/src/table": ["MOST_KEPT"], "screen_draw/src/updates": ["PIECE"], "screen_text/src/recording": ["MOST_FRONT"], "ansi2html/src/words": ["MOST_OF_A_TAG"], "ansi_html/src/block": ["LINES_A_BLOCK"],
     "command_line/src/lib": ["FAILED", "MISUSED", "READER_GONE"], "ansi_screen/src/size": ["MIN_COLUMNS", "MAX_COLUMNS", "MIN_ROWS", "MAX_ROWS"],
-    "screen_pieces/src/modes": ["RESERVED_MODES"], "ansi_modes/src/text": ["MAX_TEXT"], "ansi_answers/src/waiting": ["MAX_WAITING"], "ansi_screen_c/src/history": ["RESERVED_OPTIONS"], "ansi_html/src/spare": ["BYTE_EARNS", "FEED_COUNTS"],
+    "screen_pieces/src/modes": ["RESERVED_MODES"], "screen_pieces/src/parts": ["RESERVED_PLACE"], "ansi_modes/src/text": ["MAX_TEXT"], "ansi_answers/src/waiting": ["MAX_WAITING"], "ansi_screen_c/src/history": ["RESERVED_OPTIONS"], "ansi_html/src/spare": ["BYTE_EARNS", "FEED_COUNTS"],
 }  # fmt: skip
 PLAIN = ["PIECE", "MOST_FRONT", "MAX_COLUMNS", "MAX_ROWS", "ansi_colors"]  # which stand there with no commas
 
@@ -152,7 +156,7 @@ def numbers(read, constant, executed):
     times = read("crates/ansi_html/specs/Html.antt")
     for name, styling in ("INLINE", r"\(Inline scheme\)"), ("BY_CLASSES", "Classes"):
         found[name] = int(re.search(r"(?m)^html_of_a_byte %s = (\d+)$" % styling, times)[1])
-    callers = "".join(read("tests/callers/%s.c" % it) for it in ("answers", "events", "header", "html", "lf", "safe", "screen"))
+    callers = "".join(read("tests/callers/%s.c" % it) for it in ("answers", "events", "header", "html", "lf", "parts", "safe", "screen"))
     found.update((name, int(size)) for name, size in re.findall(r"static_assert\(sizeof\((?:struct )?(\w+)\) == (\d+),", callers))
     found = {name: str(it) if name in PLAIN or name.startswith("RECORDED") else "{:,}".format(it) for name, it in found.items()}
     held = {name: it if isinstance(it, str) else "{:,}".format(it) for name, it in HELD.items()}

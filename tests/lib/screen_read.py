@@ -8,6 +8,7 @@ import shutil
 
 from lib.library_shared import INCLUDE, ROOT, RUST, SANITIZERS, WARNINGS, compiler, failure, left_out, run
 from lib import screen_cells
+from lib import screen_parts
 
 FOLDER = "%s/crates/ansi_screen_c/out" % ROOT
 ARCHIVE = FOLDER + "/libansi_screen.a"
@@ -71,6 +72,11 @@ def c_cases(room):
     words = [tool, "-std=c11", *SANITIZERS, *WARNINGS, CALLERS + "/cells.c", ARCHIVE, "-o", path]
     yield "tests/callers/cells.c is built", failure(run(words))
     yield from read_cases("C", path)
+    path = room + "/parts in C"
+    words = [tool, "-std=c11", *SANITIZERS, *WARNINGS, CALLERS + "/parts.c", ARCHIVE, "-o", path]
+    yield "tests/callers/parts.c is built", failure(run(words))
+    yield "what answers false writes nothing", failure(run([path]))
+    yield from screen_parts.part_cases("C", path)
 
 
 # ------------------------------------------------------------------ Rust
@@ -87,10 +93,12 @@ def rust_cases(room):
     words = ["--crate-type", "rlib", "--crate-name", "ansi_proved", *feature, *paths]
     yield "rustc takes the package", failure(run(["rustc", *edition, *words, RUST + "/src/lib.rs", "-o", package], patience=300))
     known = ["rustc", *edition, *feature, "--extern", "ansi_proved=" + package]
-    for path, options in (RUST + "/tests/screen.rs", ["--test"]), (RUST + "/tests/memory.rs", ["--test"]), (CALLERS + "/cells.rs", []):
+    for path, options in (RUST + "/tests/screen.rs", ["--test"]), (RUST + "/tests/memory.rs", ["--test"]), (CALLERS + "/cells.rs", []), (CALLERS + "/parts.rs", []):
         program = "%s/%s in Rust" % (room, os.path.basename(path))
         yield "%s is built" % os.path.relpath(path, ROOT), failure(run([*known, *options, path, "-o", program], patience=300))
         if options:
             yield "and passes", failure(run([program]))
+        elif path.endswith("/parts.rs"):
+            yield from screen_parts.part_cases("Rust", program)
         else:
             yield from read_cases("Rust", program)

@@ -104,6 +104,7 @@ def cases(module, stub):
     screen = module.Screen(3, 2)
     screen.feed("\x1b[31mx\x1b[1;38;5;9;48;2;1;2;3my")
     values = {"Cell": screen.row(0), "Change": screen.changes(), "Cursor": [screen.cursor], "Modes": [screen.modes]}
+    values.update(Place=[screen.place, screen.saved], Margins=[screen.margins])
     values["Style"] = [screen.style, *(it.style for it in values["Cell"])]
     values["Color"] = [color for it in values["Style"] for color in (it.foreground, it.background)]
     for it in told:

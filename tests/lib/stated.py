@@ -63,7 +63,7 @@ SAID_IN = {
         "ansi_screen_open and ansi_screen_open_with answer false where there is no such size, or no memory: then none is held",
         "all others answer false where none is held, outside of the screen, and where end is less than start",
         "the functions that write text or bytes also do where the room is too small: then written is their length. else it is 0",
-        "ansi_screen_row and ansi_screen_history_row do where there is room for fewer cells than the screen has columns",
+        "ansi_screen_row, ansi_screen_hidden_row, ansi_screen_history_row and ansi_screen_stops do where there is room for less than the screen has columns",
         "the oldest has the number 0",
         "ansi_screen_draw, ansi_screen_update and ansi_screen_html also do where there is no memory, and ansi_screen_update where the sizes differ",
     ],

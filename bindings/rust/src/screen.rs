@@ -26,11 +26,13 @@
 
 mod answers;
 mod keys;
+mod parts;
 
 pub use answers::{Answers, Colors, Rgb};
 pub use keys::{
     Action, Asked, Button, Encoding, Event, Held, Key, Mouse, Move, Pad, Shape, Tracking, Wheel,
 };
+pub use parts::{color_rgb, Charsets, Saved};
 
 use crate::Styling;
 use alloc::string::String;

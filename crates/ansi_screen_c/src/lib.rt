@@ -10,6 +10,7 @@ mod handle;
 mod history;
 mod loose;
 mod page;
+mod parts;
 mod same;
 mod text;
 

@@ -9,5 +9,7 @@ pub mod Terminal
 pub mod Same
 pub mod Page
 pub mod Modes
+pub mod Parts
+pub mod Palette
 pub mod Keys
 pub mod Telling

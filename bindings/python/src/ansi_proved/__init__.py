@@ -9,6 +9,7 @@ r"""Terminal output as clean text, HTML, events or a screen, by a proved library
     text_of(stream), html_of(stream)    the same of a stream in pieces, such as a file, piece by piece
     events(stream)    its events, named tuples: Text, Execute, Csi, Esc, Osc, Hook, Put, Unhook (any: Event); Events().feed(piece), end()
     Screen(80, 24)    a terminal's screen, to feed and to look at, cell by cell
+    color_rgb(196)    the red, green and blue of one of xterm's 256 colours: (255, 0, 0)
 
 A text is a str, and leads to a str; or bytes, a bytearray or a memoryview, and leads to bytes. What is none of these is a
 TypeError in words. A surrogate in a str, as errors="surrogateescape" leaves it, is U+FFFD everywhere, as a broken character is.
@@ -31,7 +32,7 @@ from .text import strip, text_of
 __version__ = "0.1.0"
 __all__ = ["STYLINGS", "html_of", "page", "safe", "strip", "stylesheet", "text_of", "to_html"]
 __all__ += ["events", "Csi", "Esc", "Event", "Events", "Execute", "Hook", "Osc", "Put", "Text", "Unhook"]
-_OF_SCREEN = ["Cell", "Change", "Color", "Cursor", "History", "Modes", "Screen", "Style"]
+_OF_SCREEN = ["Cell", "Change", "Color", "Cursor", "History", "Margins", "Modes", "Place", "Screen", "Style", "color_rgb"]
 _LATER = {**dict.fromkeys(_OF_SCREEN, ".screen"), "shown": ".shown"}
 __all__ += _LATER
 

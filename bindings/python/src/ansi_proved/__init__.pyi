@@ -4,8 +4,8 @@ from typing import Dict, Iterable, Iterator, List, Literal, Protocol, TypeVar, U
 
 from .event import Csi as Csi, Esc as Esc, Event as Event, Execute as Execute, Hook as Hook, Osc as Osc, Put as Put, Text as Text
 from .event import Unhook as Unhook
-from .screen import Cell as Cell, Change as Change, Color as Color, Cursor as Cursor, History as History, Modes as Modes
-from .screen import Screen as Screen, Style as Style
+from .screen import Cell as Cell, Change as Change, Color as Color, Cursor as Cursor, History as History, Margins as Margins
+from .screen import Modes as Modes, Place as Place, Screen as Screen, Style as Style, color_rgb as color_rgb
 
 _Bytes = Union[bytes, bytearray, memoryview]
 _Styling = Literal["both", "light", "dark", "classes"]

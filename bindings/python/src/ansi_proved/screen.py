@@ -34,6 +34,15 @@ ATTRIBUTES = ["bold", "dim", "italic", "blink", "reverse", "hidden", "struck_out
 
 Cursor = namedtuple("Cursor", "row column shown")
 Cursor.__doc__ = "Where the cursor is, counted from 0. Its column is that of the screen's width where a wrap is pending."
+Place = namedtuple("Place", "row column style origin wrap_pending g0_draws g1_draws uses_g1")
+Place.__doc__ = """A place of the cursor, and what DECSC saves with it; autowrap is none of it.
+
+row, column: counted from 0; the column is the screen's width where a wrap is pending (wrap_pending). style: of what comes next.
+origin: lines are counted from the upper margin (DECOM). g0_draws, g1_draws: G0 or G1 is the line drawing set, and not letters.
+uses_g1: characters are those of G1 (SO), and not of G0 (SI).
+"""
+Margins = namedtuple("Margins", "top bottom")
+Margins.__doc__ = "The rows that scroll (DECSTBM): from `top`, counted from 0, up to `bottom`, which is not among them."
 Change = namedtuple("Change", "row first past")
 Change.__doc__ = "Columns of a row that can have changed: from `first` up to `past`, which is not among them."
 Modes = namedtuple(
@@ -79,6 +88,11 @@ class CellBytes(ctypes.Structure):
 
 class ModeBytes(ctypes.Structure):
     _fields_ = [(name, ctypes.c_ubyte) for name in Modes._fields] + [("reserved", ctypes.c_ubyte)]
+
+
+class PlaceBytes(ctypes.Structure):
+    _fields_ = [("row", ctypes.c_size_t), ("column", ctypes.c_size_t), ("style", StyleBytes)]
+    _fields_ += [(name, ctypes.c_ubyte) for name in Place._fields[3:]] + [("reserved", ctypes.c_ubyte * 2)]
 
 
 class KeyBytes(ctypes.Structure):
@@ -127,6 +141,9 @@ _close, _reset = _call("ansi_screen_close", answer=None), _call("ansi_screen_res
 _feed = _call("ansi_screen_feed", _AT, _SIZE)
 _cursor, _style, _modes = _call("ansi_screen_cursor", _AT, _AT), _call("ansi_screen_style", _AT), _call("ansi_screen_modes", _AT)
 _cell, _row = _call("ansi_screen_cell", _SIZE, _SIZE, _AT), _call("ansi_screen_row", _SIZE, _AT, _SIZE)
+_place, _margins = _call("ansi_screen_place", ctypes.c_ubyte, _AT), _call("ansi_screen_margins", _AT, _AT)
+_stops, _hidden_row = _call("ansi_screen_stops", _AT, _SIZE), _call("ansi_screen_hidden_row", _SIZE, _AT, _SIZE)
+_color_rgb = function("ansi_screen_color_rgb", None, ctypes.c_ubyte, _AT, library=LIBRARY)
 _changed, _forget = _call("ansi_screen_changed", _SIZE, _AT, _AT), _call("ansi_screen_forget")
 _text, _row_text = _call("ansi_screen_text", *_WRITES), _call("ansi_screen_row_text", _SIZE, *_WRITES)
 _part_text = _call("ansi_screen_part_text", _SIZE, _SIZE, _SIZE, *_WRITES)
@@ -238,6 +255,16 @@ def _rgb_of(color):
 def _decoded(written):
     """The str of memory whose bytes are UTF-8."""
     return str(written, "utf-8")
+
+
+def color_rgb(number):
+    """The red, green and blue of one of xterm's 256 colours, as xterm has them at first: its eight (named), from 8 on the same in
+    bright, a cube and greys."""
+    number, found = _number(number, "the number of a colour"), (ctypes.c_ubyte * 3)()
+    if not 0 <= number < 256:
+        raise ValueError("a colour has a number below 256, and not %d" % number)
+    _color_rgb(number, ctypes.addressof(found))
+    return tuple(found)
 
 
 def check_size(columns, rows):
@@ -581,6 +608,49 @@ class Screen:
         with self._lock:
             self._held(_modes(self._at, ctypes.addressof(found)))
         return Modes(*(_TOLD.get(name, bool)(getattr(found, name)) for name in Modes._fields))
+
+    def _place_of(self, which):
+        """The place of a number; None where there is none."""
+        found = PlaceBytes()
+        with self._lock:
+            if not _place(self._at, which, ctypes.addressof(found)):
+                return self._held(self._handle.held)
+        return Place(found.row, found.column, _style_of(found.style), *(bool(getattr(found, name)) for name in Place._fields[3:]))
+
+    @property
+    def place(self):
+        """The cursor with all that DECSC would save."""
+        return self._place_of(0)
+
+    @property
+    def saved(self):
+        """What DECSC saved on the screen that shows; where nothing was, the top left, plain."""
+        return self._place_of(1)
+
+    @property
+    def hidden_saved(self):
+        """While the alternate screen shows, what is saved on the main one: where the cursor was (1049), and goes back to; else None."""
+        return self._place_of(2)
+
+    @property
+    def margins(self):
+        """The rows that scroll."""
+        return Margins(*self._two_by(_margins))
+
+    @property
+    def stops(self):
+        """The columns at which tabs stop, counted from 0."""
+        found = ctypes.create_string_buffer(self._columns)
+        with self._lock:
+            self._held(_stops(self._at, ctypes.addressof(found), self._columns))
+        return [column for column, stop in enumerate(found.raw) if stop]
+
+    def hidden_row(self, row):
+        """The cells of a row of the main screen, counted from 0, while the alternate one shows; else None."""
+        row = self._row_within(row)
+        with self._lock:
+            self._held(self._handle.held)
+            return cells_of(self._row_by(_hidden_row, row)) if self.modes.alternate_screen else None
 
     @property
     def title(self):

@@ -19,6 +19,20 @@ class Cursor(NamedTuple):
     column: int
     shown: bool
 
+class Place(NamedTuple):
+    row: int
+    column: int
+    style: Style
+    origin: bool
+    wrap_pending: bool
+    g0_draws: bool
+    g1_draws: bool
+    uses_g1: bool
+
+class Margins(NamedTuple):
+    top: int
+    bottom: int
+
 class Change(NamedTuple):
     row: int
     first: int
@@ -65,6 +79,8 @@ class Cell(NamedTuple):
     link: int
     goes_on: bool
 
+def color_rgb(number: int) -> Tuple[int, int, int]: ...
+
 class History(Sequence[List[Cell]]):
     def __len__(self) -> int: ...
     @overload
@@ -107,6 +123,17 @@ class Screen:
     def style(self) -> Style: ...
     @property
     def modes(self) -> Modes: ...
+    @property
+    def place(self) -> Place: ...
+    @property
+    def saved(self) -> Place: ...
+    @property
+    def hidden_saved(self) -> Optional[Place]: ...
+    @property
+    def margins(self) -> Margins: ...
+    @property
+    def stops(self) -> List[int]: ...
+    def hidden_row(self, row: int) -> Optional[List[Cell]]: ...
     @property
     def title(self) -> str: ...
     def asked(self) -> Set[str]: ...

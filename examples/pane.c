@@ -10,6 +10,7 @@
  * words are wrong. */
 #define _XOPEN_SOURCE 700
 #define _DEFAULT_SOURCE
+#include "style.h"
 #include "typed.h"
 
 #include <errno.h>
@@ -85,35 +86,6 @@ static void close_pane(struct pane *pane)
 }
 
 /* ------------------------------------------------------------------ what is written */
-
-static void put_color(ansi_color color, unsigned base)
-{
-    const uint8_t *values = color.values;
-
-    switch (color.kind) {
-    case ANSI_COLOR_NAMED: printf(";%u", base + values[0]); break;
-    case ANSI_COLOR_BRIGHT: printf(";%u", base + 60 + values[0]); break;
-    case ANSI_COLOR_INDEXED: printf(";%u;5;%u", base + 8, values[0]); break;
-    case ANSI_COLOR_DIRECT: printf(";%u;2;%u;%u;%u", base + 8, values[0], values[1], values[2]); break;
-    }
-}
-
-static void put_style(const ansi_style *style)
-{
-    fputs("\033[0", stdout);
-    if (style->bold) fputs(";1", stdout);
-    if (style->dim) fputs(";2", stdout);
-    if (style->italic) fputs(";3", stdout);
-    if (style->underline) printf(";4:%u", style->underline);
-    if (style->blink) fputs(";5", stdout);
-    if (style->reverse) fputs(";7", stdout);
-    if (style->hidden) fputs(";8", stdout);
-    if (style->struck_out) fputs(";9", stdout);
-    if (style->overlined) fputs(";53", stdout);
-    put_color(style->foreground, 30);
-    put_color(style->background, 40);
-    putchar('m');
-}
 
 static void put_row(struct pane *pane, size_t row)
 {
@@ -320,7 +292,7 @@ static bool take_typed(struct pane *pane, struct pollfd *input)
         pane->typed.count += (size_t)count;
     else
         input->fd = -1; /* (nothing more is typed) */
-    if (!room || !queue_all(pane, count <= 0))
+    if (!room || !queue_all(pane, false))
         return false;
     pane->due = pane->typed.count ? milliseconds() + ESCAPE_TIME : 0;
     return true;

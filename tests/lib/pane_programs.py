@@ -1,6 +1,6 @@
 """Programs that people use, in examples/pane.c: what is typed at its terminal, as xterm sends it, does in them what it does in xterm.
 
-    cases(pane)     those of tests/screen_library, of a pane that is built
+    cases(pane)     those of tests/screen_library, of a pane that is built, or none
 """
 
 import os
@@ -118,6 +118,8 @@ PROGRAMS = {"bash": bash_cases, "less": less_cases, "vim": vim_cases, "htop": ht
 
 
 def cases(pane):
+    if not os.path.exists(pane):
+        return
     with tempfile.TemporaryDirectory() as room:
         os.mkdir(room + "/files")
         for name in ("one", "two", "three"):

@@ -1,6 +1,6 @@
 """What is typed at examples/pane.c, as xterm sends it, and what its command reads; and what the pane asks of its terminal.
 
-    cases(pane)         those of tests/screen_library, of a pane that is built
+    cases(pane)         those of tests/screen_library, of a pane that is built, or none
     Talk                a command in a pane, to which is typed
 """
 
@@ -18,7 +18,8 @@ import twin
 
 MODE = re.compile(rb"\x1b\[\?([0-9;]+)([hl])")
 OWN = {"7", "25"}  # modes of the terminal that a pane sets and resets itself, and leaves on
-LONG = 300_000
+LONG = 200_000
+PIECES = 10
 
 
 class Talk(Terminal):
@@ -101,6 +102,15 @@ READ = [
     ("an empty paste", "\x1b[?2004h", "\x1b[200~\x1b[201~", "^[[200~^[[201~"),
     ("what is taken back", "\x1b[?1;1000;1006;1004;2004h\x1bc", "\x1b[A\x1b[<0;3;2M\x1b[I\x1b[200~a\x1b[201~", "^[[Aa"),
 ]
+# What the command asks, and what it is answered.
+ANSWERED = [
+    ("whether all is well", "\x1b[5n", "^[[0n"),
+    ("where the cursor is", "\x1b[3;5H\x1b[6n", "^[[3;5R"),
+    ("two at once", "\x1b[c\x1b[18t", "^[[?62;22c^[[8;5;60t"),
+    ("what a mode is", "\x1b[?2004h\x1b[?2004$p\x1b[?9$p", "^[[?2004;1$y^[[?9;2$y"),
+    ("what the style is", "\x1b[1;31m\x1bP$qm\x1b\\", "^[P1$r0;1;31m^[\\"),
+    ("a colour that it has set", "\x1b]11;#102030\x07\x1b]11;?\x07", "^[]11;rgb:1010/2020/3030^G"),
+]
 # What the command asks for, and the modes of its terminal that the pane asks for by it.
 ASKED = [
     ("nothing", "\x1b[1;1004h\x1b[>1h\x1b[?1;12;7;66;1015;1006;1007;1049;2026h", ""),
@@ -139,9 +149,17 @@ def escape_cases(pane):
     yield "a paste waits for its end", talk.says("\x1b[200~one", "ready^[[A^[[")
     time.sleep(0.1)  # (more than what Escape waits for)
     yield "however late that comes", talk.says("\x1b[201~", "ready^[[A^[[^[[200~one^[[201~")
-    for byte in "\x1b[1;5D":
-        talk.type(byte.encode())
-    yield "a key that comes in pieces is one", talk.says("", "ready^[[A^[[^[[200~one^[[201~^[[1;5D")
+    talk.end()
+    talk, _ = reader(pane, "\x1b[?1h")
+    for _ in range(PIECES):  # (those of one of them may come late, where the machine is busy)
+        before = talk.rows()[0]
+        for piece in ("\x1b", "[", "D"):
+            talk.type(piece.encode())
+            time.sleep(0.003)
+        talk.until(lambda: talk.rows()[0][len(before) :] in ("^[OD", "^[[D"))
+        if talk.rows()[0].endswith("^[OD"):
+            break
+    yield "a key that comes in pieces is one", None if talk.rows()[0].endswith("^[OD") else "it shows %r" % talk.rows()
     talk.end()
 
 
@@ -157,6 +175,18 @@ def asked_cases(pane):
         is_over = talk.has_ended()
         yield "leaves the terminal without it", None if is_over and not talk.modes() else "modes are %s" % sorted(talk.modes())
         talk.end()
+
+
+def answer_cases(pane):
+    script = 'stty raw -echo; printf %s "$0"; exec cat -vT'
+    for name, stream, wanted in ANSWERED:
+        talk = Talk(pane, 60, 5, ["sh", "-c", script, stream + "\x1b[m\x1b[H"])
+        yield "a command is answered %s" % name, talk.says("", wanted)
+        talk.end()
+    script = 'stty raw -echo; head -c 100000 /dev/zero | sed "s/./$(printf "\\033[c")/g"; printf "\033[H\033[Jdone"; read line'
+    talk = Talk(pane, 60, 5, ["sh", "-c", script])
+    yield "one that reads no answer does not stop the pane", talk.says("", "done")
+    talk.end()
 
 
 def told_cases(pane):
@@ -181,7 +211,7 @@ def told_cases(pane):
 
 def queue_cases(pane):
     """A command that does not read, to which more is typed than its terminal holds, and which writes more than that."""
-    script = 'stty raw -echo; printf ready; read line; seq 100000; printf "\\033[2J\\033[H"; head -c %d | cksum' % LONG
+    script = 'stty raw -echo; printf ready; read line; seq 20000; printf "\\033[2J\\033[H"; head -c %d | cksum' % LONG
     talk = Talk(pane, 30, 3, ["sh", "-c", script])
     talk.until(lambda: talk.rows() == ["ready"])
     talk.type(b"\n")
@@ -197,8 +227,11 @@ def queue_cases(pane):
 
 
 def cases(pane):
+    if not os.path.exists(pane):
+        return
     yield from read_cases(pane)
     yield from escape_cases(pane)
     yield from asked_cases(pane)
+    yield from answer_cases(pane)
     yield from told_cases(pane)
     yield from queue_cases(pane)

@@ -22,7 +22,7 @@ from lib.library_shared import ROOT, SANITIZERS, WARNINGS, compiler, failure, le
 sys.path.append("%s/tests/screen" % ROOT)
 import twin
 
-ARCHIVES = ["%s/crates/%s" % (ROOT, it) for it in ("ansi_screen_c/out/libansi_screen.a", "ansi/out/libansi.a")]
+ARCHIVE = "%s/crates/ansi_screen_c/out/libansi_screen.a" % ROOT
 COLUMNS, ROWS = 20, 5  # of the pane
 WIDER, HIGHER = 30, 8  # the terminal that it stands in
 PATIENCE, QUIET = 20, 0.2  # seconds: that something takes at most, and without a byte when all is written
@@ -248,7 +248,7 @@ def built(name, room):
     tool, program = compiler("gcc", "cc", "clang"), "%s/%s" % (room, name)
     source = "%s/examples/%s.c" % (ROOT, name)
     # (what LLVM and gcc make of memcmp themselves is not looked at)
-    return tool and [tool, "-std=c99", "-O2", "-fno-builtin-memcmp", *SANITIZERS, *WARNINGS, source, *ARCHIVES, "-o", program], program
+    return tool and [tool, "-std=c99", "-O2", "-fno-builtin-memcmp", *SANITIZERS, *WARNINGS, source, ARCHIVE, "-o", program], program
 
 
 def pane_cases(room):

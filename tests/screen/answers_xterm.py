@@ -26,6 +26,9 @@ import styles
 import terminals
 
 ROOT = os.path.dirname(os.path.dirname(os.path.dirname(os.path.realpath(__file__))))
+sys.path.append(os.path.join(ROOT, "bindings", "python", "src"))
+from ansi_proved import Screen
+
 RECORDINGS = os.path.join(ROOT, "tests", "screen", "recordings")
 SIZE, RECORDED = (20, 6), (80, 24)
 
@@ -33,6 +36,10 @@ STATUS, WELL = terminals.RED_ON  # what is asked between all else, and its answe
 CANCEL, COLORLESS = b"\x18", b"\x1b]104\x07\x1b]110\x07\x1b]111\x07\x1b]112\x07"
 PRIVATE = [1, 5, 6, 7, 9, 12, 25, 66, 67, 1000, 1002, 1003, 1004, 1006, 1007, 1015, 1016, 1049, 2004, 2026]
 ENDS = ("\x1b\\", "\x07")
+NO_SETTING = b"\x1bP0$r\x1b\\"
+REVERSE = re.compile(rb"\x1b\[\?([\d;]*;)?5(;[\d;]*)?h")
+COLOR = re.compile(rb"\x1b\]1[012];rgb:[\da-f]{4}/[\da-f]{4}/[\da-f]{4}(\x07|\x1b\\)")
+PENDING = re.compile(rb";(2|8)0R")  # a cursor in the last column
 COLORS = ["4;1", "4;9", "4;200", "10", "11", "12"]
 ASKED = {
     "CPR": "\x1b[6n", "DECXCPR": "\x1b[?6n", "DA1": "\x1b[c", "DA1, 0": "\x1b[0c", "DA2": "\x1b[>c", "DA3": "\x1b[=c",
@@ -40,17 +47,19 @@ ASKED = {
     **{"DECRQSS %s" % it: "\x1bP$q%s\x1b\\" % it for it in ("m", "r", " q", "z", "mm", "")},
     **{"DECRQM %d" % it: "\x1b[%d$p" % it for it in (4, 20, 99)},
     **{"DECRQM ?%d" % it: "\x1b[?%d$p" % it for it in [*PRIVATE, 1005, 999, 31999]},
-    **{"OSC %s" % it: "\x1b]%s;?%s" % (it, end) for it in COLORS for end in ENDS[:1]},
+    **{"OSC %s" % it: "\x1b]%s;?\x1b\\" % it for it in COLORS},
+    "DECRQM": "\x1b[$p", "DECRQM ?": "\x1b[?$p", "DECRQSS 1, m": "\x1bP1$qm\x1b\\", "kitty's flags, 1": "\x1b[?1u",
     "OSC 4, BEL": "\x1b]4;1;?\x07", "OSC 11, BEL": "\x1b]11;?\x07", "OSC 4, two": "\x1b]4;1;?;9;?\x1b\\", "OSC 10, two": "\x1b]10;?;?\x1b\\",
 }
 # what xterm answers beside
 OTHERS = {
-    "DECID": "\x1bZ", "ENQ": "\x05", "DECREQTPARM": "\x1b[x", "DSR ?15": "\x1b[?15n", "DSR ?25": "\x1b[?25n", "DSR ?26": "\x1b[?26n",
-    "DSR ?53": "\x1b[?53n", "DECRQUPSS": "\x1b[&u", "DECCIR": "\x1b[1$w", "DECTABSR": "\x1b[2$w", "XTQMODKEYS": "\x1b[?4m", "XTGETTCAP": "\x1bP+q544e\x1b\\",
+    "DECID": "\x1bZ", "ENQ": "\x05", "DECREQTPARM": "\x1b[x", "DECRQUPSS": "\x1b[&u", "DECCIR": "\x1b[1$w", "DECTABSR": "\x1b[2$w",
+    "XTQMODKEYS": "\x1b[?4m", "XTGETTCAP": "\x1bP+q544e\x1b\\",
+    **{"DSR ?%d" % it: "\x1b[?%dn" % it for it in (15, 25, 26, 53)},
     **{"CSI %d t" % it: "\x1b[%dt" % it for it in (11, 13, 14, 16, 19, 20, 21)},
-    **{"OSC %s" % it: "\x1b]%s;?\x1b\\" % it for it in ("5;0", "13", "17", "19")},
+    **{"OSC %s" % it: "\x1b]%s;?\x1b\\" % it for it in ("4;256", "5;0", "13", "17", "19")},
     **{"DECRQSS %s" % it: "\x1bP$q%s\x1b\\" % it for it in ('"p', '"q', "s", "t", "*x")},
-    **{"DECRQM %d" % it: "\x1b[%d$p" % it for it in (2, 12)}, **{"DECRQM ?%d" % it: "\x1b[?%d$p" % it for it in (2, 3, 8, 13, 40, 45, 47, 69, 1034, 1047)},
+    **{"DECRQM %s" % it: "\x1b[%s$p" % it for it in ("2", "12", "?2", "?3", "?8", "?13", "?40", "?45", "?47", "?69", "?1034", "?1047")},
 }
 NAMES = [*ASKED, *OTHERS, "DSR"]
 
@@ -72,39 +81,45 @@ def states(theirs, ours):
     return tuple(int(found[1]) if found else None for found in (re.fullmatch(rb"\x1b\[\??\d+;(\d)\$y", it) for it in (theirs, ours)))
 
 
-def is_style_after(reset, theirs, ours):
-    """Whether both tell the same style, which xterm has not the line above of, and of which its DECSTR leaves some."""
+def is_style(reset, theirs, ours):
+    """Whether both tell one style: xterm has no line above; and where that is so, it can have left some of it at a reset."""
     theirs, ours = style_of(theirs), style_of(ours)
     if theirs and ours and reset:
         theirs = theirs._replace(dim=ours.dim, italic=ours.italic, struck_out=ours.struck_out, underline=ours.underline)
     return theirs and ours and theirs == ours._replace(overlined=False)
 
 
-# For each terminal: of which answers, why they differ, and which that explains, by the stream and both.
+def sized(size):
+    return b"\x1b[8;%d;%dt" % (size[1], size[0])
+
+
+# Of which answers, why they differ, and which that explains, by the stream, theirs and ours.
 BOTH = [
-    ("DA.*|XTVERSION", "it calls itself otherwise", lambda _, theirs, ours: re.fullmatch(rb"\x1b(\[[?>][\d;]*c|P>\|.*\x1b\\)", ours) and theirs[:3] == ours[:3]),
-    ("kitty's flags", "it has none of kitty's flags", lambda _, theirs, ours: theirs == b"" and ours == b"\x1b[?0u"),
-    ("|".join(map(re.escape, OTHERS)), "not answered here", lambda _, theirs, ours: ours in (b"", b"\x1bP0$r\x1b\\") or states(theirs, ours)[1] == 0),
+    ("DA1.*", "what it is", lambda _, theirs, ours: ours == b"\x1b[?62;22c" and re.fullmatch(rb"\x1b\[\?[\d;]+c", theirs)),
+    ("DA2", "its version", lambda _, theirs, ours: ours == b"\x1b[>1;10;0c" and re.fullmatch(rb"\x1b\[>[\d;]+c", theirs)),
+    ("XTVERSION", "its name", lambda _, theirs, ours: all(re.fullmatch(rb"\x1bP>\|[ -~]+\x1b\\", it) for it in (theirs, ours))),
+    ("kitty's flags.*", "it has no flags of kitty's", lambda _, theirs, ours: (theirs, ours) == (b"", b"\x1b[?0u")),
+    ("|".join(map(re.escape, OTHERS)), "not answered here", lambda _, theirs, ours: ours in (b"", NO_SETTING) or states(theirs, ours)[1] == 0),
 ]
-DIFFERENCES = {
-    "xterm": BOTH + [
-        (r"DECRQM (20|\?1005)", "what can't be set here is told as 4", lambda _, theirs, ours: states(theirs, ours) == (2, 4)),
-        (r"DECRQM \?2026", "xterm 379 has no 2026", lambda _, theirs, ours: states(theirs, ours) in ((0, 1), (0, 2))),
-        ("DECRQSS m", "the same style, in other words and without the line above", lambda _, theirs, ours: is_style_after(False, theirs, ours)),
-        ("DECRQSS m", "xterm's DECSTR leaves some of a style", lambda data, theirs, ours: b"\x1b[!p" in data and is_style_after(True, theirs, ours)),
-        ("OSC 1[012].*", "xterm tells others while light and dark change places", lambda data, *_: re.search(rb"\x1b\[\?([\d;]*;)?5(;[\d;]*)?h", data)),
-        ("OSC .*, two", "of two the first is answered here", lambda _, theirs, ours: ours and theirs.startswith(ours)),
-    ],
-    "tmux": BOTH + [
-        ("DECXCPR|DA3|DECRQ.*", "tmux does not answer", lambda _, theirs, ours: theirs == b"" and ours),
-        ("CPR|stream", "tmux tells a column past the last", lambda _, theirs, ours: theirs == ours.replace(b";20R", b";21R").replace(b";80R", b";81R")),
-        ("CPR|stream", "tmux counts rows from the first one in origin mode", lambda data, theirs, ours: b"\x1b[?6h" in data and rowless(theirs) == rowless(ours)),
-        ("size", "tmux 3.3a tells columns before rows", lambda _, theirs, ours: sorted(re.findall(rb"\d+", theirs)) == sorted(re.findall(rb"\d+", ours))),
-        ("OSC 4;(9|200)", "tmux 3.3a answers of the first eight colours", lambda _, theirs, ours: theirs == b"" and ours),
-        ("OSC 4.*", "tmux 3.3a leaves the number out", lambda _, theirs, ours: theirs and theirs == re.sub(rb"\]4;\d+;", b"]4;", ours)),
-        ("OSC 10, two", "of two tmux answers none", lambda _, theirs, ours: theirs == b"" and ours),
-    ],
-}
+OF_XTERM = [
+    (r"DECRQM (20|\?1005)", "what can't be set here is told as 4", lambda _, theirs, ours: states(theirs, ours) == (2, 4)),
+    (r"DECRQM \?2026", "xterm 379 has no 2026", lambda _, theirs, ours: states(theirs, ours) in ((0, 1), (0, 2))),
+    (r"DECRQM( \?)?", "a number that is left out is told as 0 here", lambda _, theirs, ours: theirs.replace(b"65535", b"0") == ours),
+    ("DECRQSS 1, m", "it has no answer where a number comes first", lambda _, theirs, ours: theirs == b"" and style_of(ours)),
+    ("DECRQSS m", "the same style in other words", lambda _, theirs, ours: is_style(False, theirs, ours)),
+    ("DECRQSS m", "its DECSTR leaves some of a style", lambda data, theirs, ours: b"\x1b[!p" in data and is_style(True, theirs, ours)),
+    ("OSC 1[012].*", "its colours change places in reverse video", lambda data, theirs, ours: REVERSE.search(data) and COLOR.fullmatch(ours)),
+    ("OSC .*, two", "of two the first is answered here", lambda _, theirs, ours: ours and theirs.startswith(ours)),
+]
+OF_TMUX = [
+    ("DECXCPR|DA3|DECRQ.*|OSC 10, two", "it has no answer", lambda _, theirs, ours: theirs == b"" and ours),
+    ("CPR|stream", "it tells a column past the last", lambda _, theirs, ours: theirs == PENDING.sub(rb";\g<1>1R", ours)),
+    ("CPR|stream", "it counts from the first row in origin mode", lambda data, theirs, ours: b"\x1b[?6h" in data and rowless(theirs) == rowless(ours)),
+    ("size", "3.3a tells columns before rows", lambda _, theirs, ours: [theirs] == [b"\x1b[8;%d;%dt" % it for it in (SIZE, RECORDED) if sized(it) == ours]),
+    ("OSC 4;(9|200)", "3.3a tells the first eight colours", lambda _, theirs, ours: theirs == b"" and ours),
+    ("OSC 4.*", "3.3a leaves the number out", lambda _, theirs, ours: theirs and theirs == re.sub(rb"\]4;\d+;", b"]4;", ours)),
+]
+DIFFERENCES = {"xterm": BOTH + OF_XTERM, "tmux": BOTH + OF_TMUX}
 
 
 def asking(draw, width, height, kind):
@@ -153,6 +168,12 @@ class Asked:
         told = self.ask(b"".join(it.encode() + STATUS for it in [*ASKED.values(), *OTHERS.values()]) + STATUS, len(NAMES) + 1)
         return {"stream": found, **dict(zip(NAMES, [*told.split(WELL)[: len(NAMES) - 1], WELL]))}
 
+    def colors(self):
+        """Its own colours, as far as it tells them."""
+        self.ask(self.reset, 1)
+        told = {it: re.search(rb"rgb:(..)../(..)../(..)..", self.ask(b"\x1b]%s;?\x07" % it.encode(), 1)) for it in COLORS}
+        return {name: [int(it, 16) for it in found.groups()] for name, found in told.items() if found}
+
     def ask(self, data, count):
         """Sends it, and DSR after it, and answers what comes up to so many answers to DSR, without the last."""
         terminals.write_all(self.sent, data + STATUS)
@@ -173,10 +194,12 @@ def opened(kind, folder, size):
     return Asked(terminal, terminal.terminal, terminal.terminal, CANCEL + COLORLESS + b"\x1b[!p\x1b[?1007;1049l\x1bc\x1b[H")
 
 
-def ours_of(size, data):
-    """What a screen answers."""
-    screen = Screen(*size)
-    found = {}
+def answers_here(size, colors, data):
+    """What a screen answers of a terminal with these colours."""
+    screen, found = Screen(*size), {}
+    named = {"10": "foreground", "11": "background", "12": "cursor"}
+    palette = {int(it[2:]): color for it, color in colors.items() if it not in named}
+    screen.colors(palette=palette, **{named[it]: color for it, color in colors.items() if it in named})
     for name, asked in {"stream": data + CANCEL, **ASKED, **OTHERS, "DSR": STATUS}.items():
         screen.feed(asked)
         found[name] = screen.answers()
@@ -195,29 +218,43 @@ def reason(kind, name, data, theirs, ours):
     return next((why for names, why, explains in DIFFERENCES[kind] if re.fullmatch(names, name) and explains(data, theirs, ours)), None)
 
 
+class Tally:
+    """How many answers are the same, how many differ for which reason, and how many for none."""
+
+    def __init__(self, kind):
+        self.kind, self.streams, self.same, self.unexplained = kind, 0, 0, 0
+        self.reasons = collections.defaultdict(collections.Counter)
+
+    def add(self, stream, data, theirs, ours):
+        self.streams += 1
+        for name in ["stream", *NAMES]:
+            why = reason(self.kind, name, data, theirs[name], ours[name])
+            if theirs[name] == ours[name]:
+                self.same += theirs[name] != b""  # (what both do not answer does not count)
+            elif why:
+                self.reasons[why][name] += 1
+            else:
+                self.unexplained += 1
+                print("%s, %s of %r: %r, here %r" % (stream, name, data, theirs[name], ours[name]))
+
+    def tell(self):
+        print("%s: %d streams, %d answers the same, %d differ for no reason" % (self.kind, self.streams, self.same, self.unexplained))
+        for why, names in self.reasons.items():
+            print("    %d, %s: %s" % (sum(names.values()), why, ", ".join("%s (%d)" % it for it in sorted(names.items()))))
+
+
 def compared(options, kind):
     """Compares one terminal, and answers how many answers differ for no reason."""
-    count, same, unexplained, reasons = 0, 0, 0, collections.defaultdict(collections.Counter)
+    tally = Tally(kind)
     for size, given in inputs(options, kind):
         with tempfile.TemporaryDirectory() as folder:
-            theirs = opened(kind, folder, size)
+            asked = opened(kind, folder, size)
+            colors = asked.colors()
             for stream, data in given:
-                count += 1
-                ours, told = ours_of(size, data), theirs.answers(data)
-                for name in ["stream", *NAMES]:
-                    why = ours[name] == told[name] or reason(kind, name, data, told[name], ours[name])
-                    if why is True:
-                        same += 1
-                    elif why:
-                        reasons[why][name] += 1
-                    else:
-                        unexplained += 1
-                        print("%s, %s of %r: %r, here %r" % (stream, name, data, told[name], ours[name]))
-            theirs.terminal.end()
-    print("%s: %d streams, %d answers the same, %d differ for no reason" % (kind, count, same, unexplained))
-    for why, names in reasons.items():
-        print("    %d %s: %s" % (sum(names.values()), why, ", ".join("%s (%d)" % it for it in sorted(names.items()))))
-    return unexplained
+                tally.add(stream, data, asked.answers(data), answers_here(size, colors, data))
+            asked.terminal.end()
+    tally.tell()
+    return tally.unexplained
 
 
 def main():

@@ -8,6 +8,7 @@ import codecs
 import os
 import re
 import select
+import tempfile
 import threading
 import time
 
@@ -210,18 +211,20 @@ def told_cases(pane):
 
 
 def queue_cases(pane):
-    """A command that does not read, to which more is typed than its terminal holds, and which writes more than that."""
-    script = 'stty raw -echo; printf ready; read line; seq 20000; printf "\\033[2J\\033[H"; head -c %d | cksum' % LONG
-    talk = Talk(pane, 30, 3, ["sh", "-c", script])
-    talk.until(lambda: talk.rows() == ["ready"])
-    talk.type(b"\n")
-    typed = "".join("%d " % it for it in range(LONG))[:LONG]
-    other = threading.Thread(target=talk.type, args=[typed.encode()], daemon=True)
-    other.start()
-    is_so = talk.until(lambda: len(talk.rows()) == 1 and talk.rows()[0].endswith(" %d" % LONG))
+    """A command that does not read, to which more is typed than its terminal holds, and which then writes more than that."""
+    script = 'stty raw -echo; printf ready; until [ -e "$0" ]; do sleep 0.01; done; seq 20000; printf "\\033[2J\\033[H"; head -c %d | cksum' % LONG
+    typed = "".join("%d " % it for it in range(LONG))[:LONG].encode()
+    with tempfile.TemporaryDirectory() as room:
+        talk = Talk(pane, 30, 3, ["sh", "-c", script, room + "/go"])
+        talk.until(lambda: talk.rows() == ["ready"])
+        other = threading.Thread(target=talk.type, args=[typed], daemon=True)
+        other.start()
+        other.join(0.3)  # (then the pane takes no more, or waits)
+        open(room + "/go", "w").close()
+        is_so = talk.until(lambda: len(talk.rows()) == 1 and talk.rows()[0].endswith(" %d" % LONG))
     yield "a command that does not read does not stop the pane", None if is_so else "it shows %r" % talk.rows()
     talk.has_ended()
-    wanted = run(["cksum"], typed.encode()).stdout.decode().split("\n")[0]
+    wanted = run(["cksum"], typed).stdout.decode().split("\n")[0]
     yield "and reads all of it later", None if talk.rows() == [wanted] else "it shows %r, and not %s" % (talk.rows(), wanted)
     talk.end()
 

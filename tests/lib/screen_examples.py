@@ -22,7 +22,7 @@ from lib.library_shared import ROOT, SANITIZERS, WARNINGS, compiler, failure, le
 sys.path.append("%s/tests/screen" % ROOT)
 import twin
 
-ARCHIVES = ["%s/crates/%s" % (ROOT, it) for it in ("ansi_screen_c/out/libansi_screen.a", "ansi/out/libansi.a")]
+ARCHIVE = "%s/crates/ansi_screen_c/out/libansi_screen.a" % ROOT
 COLUMNS, ROWS = 20, 5  # of the pane
 WIDER, HIGHER = 30, 8  # the terminal that it stands in
 PATIENCE, QUIET = 20, 0.2  # seconds: that something takes at most, and without a byte when all is written
@@ -39,10 +39,10 @@ COLORS += "\x1b[0;32;45mI\x1b[0;93;102mJ\x1b[0;38;5;9;48;5;10mK\x1b[0;38;2;7;8;9
 class Terminal:
     """A program on a pseudo-terminal of its own."""
 
-    def __init__(self, command, columns=WIDER):
+    def __init__(self, command, columns=WIDER, rows=HIGHER):
         self.master, self.slave = pty.openpty()
         self.columns = columns
-        fcntl.ioctl(self.slave, termios.TIOCSWINSZ, struct.pack("HHHH", HIGHER, columns, 0, 0))
+        fcntl.ioctl(self.slave, termios.TIOCSWINSZ, struct.pack("HHHH", rows, columns, 0, 0))
         self.before, self.written = termios.tcgetattr(self.slave), b""
         ends = {"stdin": self.slave, "stdout": self.slave, "stderr": subprocess.PIPE, "env": dict(os.environ, TERM="dumb")}
         # (what runs in the background of a shell ignores interrupts)
@@ -223,29 +223,6 @@ def talk_cases(pane):
     yield "input that is no terminal goes to the command too", None if is_so else "status %d, %r" % (done.returncode, done.stderr[-300:])
 
 
-def key_cases(pane):
-    """What a command asks of keys (xterm's ctlseqs: DECCKM is 1, bracketed paste 2004) is asked of the terminal, once, and nothing else is;
-    and no longer, where the command or its end takes it back."""
-    for name, stream, wanted in [
-        ("application cursor keys", "\x1b[?1h", b"\x1b[?1h"),
-        ("two at once", "\x1b[?2004;1;1h", b"\x1b[?1h\x1b[?2004h"),
-        ("what is taken back", "\x1b[?1h\x1b[?1l", b"\x1b[?1h\x1b[?1l"),
-        ("what a reset takes back", "\x1b[?2004hx\x1bc", b"\x1b[?2004h\x1b[?2004l"),
-        ("nothing", "\x1b[1h\x1b[>1h\x1b[?1$p\x1b[?12h\x1b[?1000h\x1b[?1049h\x1b[?1l\x1b]0;\x1b[?7l", b""),
-    ]:
-        terminal = Terminal([pane, str(COLUMNS), str(ROWS), "sh", "-c", 'stty raw -echo; printf %s "$0"; printf ready; read line', stream])
-        is_ready = terminal.settle(lambda found: "ready" in found.text())
-        before = terminal.written
-        os.write(terminal.master, b"\n")
-        terminal.settle(lambda _: terminal.program.poll() is not None)
-        after = terminal.written[len(before) :]
-        terminal.end()
-        asked, ended = (re.findall(rb"\x1b\[\?(?!25[hl]|7[hl])[0-9;]+[a-z]", it) for it in (before, after))
-        on = {it for it in asked if it.endswith(b"h")} - {it[:-1] + b"h" for it in asked if it.endswith(b"l")}
-        is_so = is_ready and sorted(asked) == sorted(re.findall(rb"\x1b\[\?\d+[hl]", wanted)) and {it[:-1] + b"h" for it in ended} == on
-        yield "a command asks %s of keys" % name, None if is_so else "asked is %s, and at its end %s" % (asked, ended)
-
-
 def quiet_cases(pane):
     """What a pane leaves alone: a command's ends, and the processor while it waits; and how it ends where nobody can see it."""
     script = "for end in 3 4 5 6 7 8 9; do test -e /proc/$$/fd/$end && echo $end is open; done; echo no other"
@@ -271,7 +248,7 @@ def built(name, room):
     tool, program = compiler("gcc", "cc", "clang"), "%s/%s" % (room, name)
     source = "%s/examples/%s.c" % (ROOT, name)
     # (what LLVM and gcc make of memcmp themselves is not looked at)
-    return tool and [tool, "-std=c99", "-O2", "-fno-builtin-memcmp", *SANITIZERS, *WARNINGS, source, *ARCHIVES, "-o", program], program
+    return tool and [tool, "-std=c99", "-O2", "-fno-builtin-memcmp", *SANITIZERS, *WARNINGS, source, ARCHIVE, "-o", program], program
 
 
 def pane_cases(room):
@@ -285,7 +262,6 @@ def pane_cases(room):
     yield from change_cases(pane)
     yield from narrow_cases(pane)
     yield from talk_cases(pane)
-    yield from key_cases(pane)
     yield from quiet_cases(pane)
 
 

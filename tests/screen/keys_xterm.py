@@ -13,6 +13,10 @@ import sys
 import tempfile
 import time
 
+sys.dont_write_bytecode = True
+
+import terminals
+
 LETTERS = "abimz"
 OTHERS = {  # what xdotool calls a key: what it types, and with Shift, on the keyboard of the United States
     "1": "1!", "2": "2@", "3": "3#", "6": "6^", "7": "7&", "8": "8*", "9": "9(", "0": "0)", "minus": "-_", "equal": "=+",
@@ -144,13 +148,11 @@ def ask_mouse(folder, modes):
 
 def run(folder, modes, batches, count):
     """What a program reads that asked for modes, in an xterm on a server of its own, up to so many F10."""
-    display = ":77"
-    environment = dict(os.environ, DISPLAY=display)
     path = os.path.join(folder, "read")
     if os.path.exists(path):
         os.remove(path)
-    server = subprocess.Popen(["Xvfb", display, "-r", "-noreset", "-screen", "0", "1024x768x24"], stderr=subprocess.DEVNULL)
-    time.sleep(2)
+    server, display = terminals.xvfb(24, "-r", "-noreset")
+    environment = dict(os.environ, DISPLAY=display)
     xterm = subprocess.Popen(
         ["xterm", "-xrm", "*metaSendsEscape: false", "-xrm", "*eightBitInput: false",
          "-xrm", "*omitTranslation: fullscreen,paging,scroll-lock,select,shift-fonts,popup-menu,reset",

@@ -44,11 +44,12 @@ def numbered(style):
     return style._replace(foreground=change(style.foreground), background=change(style.background))
 
 
-def read_until(file, last, name):
+def read_until(file, last, name, count=1):
+    """All up to that, which comes so many times."""
     found = b""
-    while not found.endswith(last):
+    while not found.endswith(last) or found.count(last) < count:
         if not select.select([file], [], [], PATIENCE)[0]:
-            sys.exit("redrawn.py: %s did not answer" % name)
+            sys.exit("%s did not answer" % name)
         found += os.read(file, 1 << 16)
     return found
 
@@ -64,12 +65,19 @@ def asked_of_tmux(socket, *words):
     return subprocess.run(command, capture_output=True, env=dict(os.environ, LC_ALL="C.UTF-8")).stdout
 
 
+def xvfb(depth, *words):
+    """An X server of our own with so many bits a pixel, and the name of its display."""
+    told, tell = os.pipe()
+    words = ["Xvfb", "-displayfd", str(tell), "-screen", "0", "1600x1200x%d" % depth, "-nolisten", "tcp", *words]
+    server = subprocess.Popen(words, pass_fds=[tell], stderr=subprocess.DEVNULL)
+    os.close(tell)
+    with open(told) as name:
+        return server, ":" + name.readline().strip()
+
+
 def xterm_under_xvfb(width, height, depth, liberties):
     """An xterm on a server of its own with so many bits a pixel: the server, the xterm, and the terminal that it shows."""
-    told, tell = os.pipe()
-    words = ["Xvfb", "-displayfd", str(tell), "-screen", "0", "1600x1200x%d" % depth, "-nolisten", "tcp"]
-    server = subprocess.Popen(words, pass_fds=[tell], stderr=subprocess.DEVNULL)
-    display = ":" + os.read(told, 9).decode().strip()
+    server, display = xvfb(depth)
     ours, terminal = pty.openpty()
     tty.setraw(terminal)
     words = ["xterm", "-u8", "-ti", "vt420", "-geometry", "%dx%d" % (width, height)]

@@ -54,14 +54,14 @@ extern "C" {
  * read of it, and ten bytes more; mostly it is as long.) */
 #define ANSI_SAFE_ROOM(count) (40 * (size_t)(count) + 40)
 
-/* Where a stream and its text stand between two pieces: 1,064 bytes, which belong to the caller.
+/* Where a stream and its text stand between two pieces: 1,080 bytes, which belong to the caller.
  *
  * One of zero bytes begins a stream (`= {0}` in C, `= {}` in C++), and so does one that
  * ansi_safe_init was given. Any bytes in it are valid. It may be copied, also to another
  * process: the copy goes on as the first does. */
 typedef struct ansi_safe {
     size_t length;
-    unsigned char others[1056];
+    unsigned char others[1072];
 } ansi_safe;
 
 /* Makes the state one that begins a stream, whatever it was. */

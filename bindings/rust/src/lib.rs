@@ -48,7 +48,7 @@ pub mod screen;
 
 /// How many bytes the states of streams hold, as `include/` declares them.
 const PENDING: usize = 1042;
-const OTHERS_OF_SAFE: usize = 1056;
+const OTHERS_OF_SAFE: usize = 1072;
 const OTHERS_OF_HTML: usize = 3184;
 
 #[derive(Clone, Debug)]

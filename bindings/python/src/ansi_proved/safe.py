@@ -15,7 +15,7 @@ PLAIN = re.compile("[\t\n\x20-;=-~]*")  # characters that are left wherever they
 class State(ctypes.Structure):
     """Where a stream and its safe text stand between two pieces. A new one begins a stream."""
 
-    _fields_ = [("length", ctypes.c_size_t), ("others", ctypes.c_ubyte * 1056)]
+    _fields_ = [("length", ctypes.c_size_t), ("others", ctypes.c_ubyte * 1072)]
 
 
 _feed = function("ansi_safe_feed", *FEED)

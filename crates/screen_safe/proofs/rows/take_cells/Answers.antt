@@ -1,6 +1,7 @@
 -- One cell more, with a mark before it; and a mark at the end.
 use Rattle.std.proofs.Common.{◌++◌, sym, subst}
 use Rattle.std.proofs.lemmas.List.{nil_from_length}
+use Rattle.safe_text.specs.Unseen.{is_unseen}
 use Rattle.safe_text.specs.Marks.{mark_between}
 use Rattle.safe_text.specs.Writer.{Takes}
 use Rattle.safe_text.specs.TakingProof.{Takes-append}
@@ -15,7 +16,7 @@ rest-preserved g c = λ end taken.
     let first = c.in-Some.first.now in
     let further = c.in-Some.further.now in
     let is = c.in-Some.ensures.cases.0 in
-    let hidden = first.style.hidden in
+    let hidden = is_unseen first.style in
     let mark = mark_between c.rest.is_hidden hidden in
     let behind = cells_marked hidden further in
     c.rest.invariant end

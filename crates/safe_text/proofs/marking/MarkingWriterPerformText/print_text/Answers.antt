@@ -14,7 +14,7 @@ returns-then-not-is_empty g c =
     let text = c.args.text.now in
     text-marked g.W.Sink c.args.self.now _ (chars text) (writer_in c.mark.new.self)
     (some-characters text c.utf8.text (sym c.is_empty.ensures ∙ c.if-not-is_empty.true)) c.mark.ensures.taken c.print_text.ensures
-    c.mark.ensures.hidden c.mark.ensures.on
+    c.mark.ensures.style c.mark.ensures.on
 
 pub returns-else-not-is_empty : goal.returns-else-not-is_empty
 returns-else-not-is_empty g c =

@@ -10,14 +10,18 @@ ghost use Rattle.screen_text.specs.Recording.{CanBeShown};
 
 use command_line::{
     OUTPUT, Target, answered, asked_of, buffered, failed, given_line, have_failed, inputs,
-    is_folder, outputs_in, value_of, wrong_size,
+    is_folder, misused, outputs_in, value_of, wrong_size,
 };
 use each_source::write_each;
 use screen_safe::SafeRows;
 use screen_text::{SHOWN, ShownSize, ShownWriter, TextRows, screen_size};
 use std::process::ExitCode;
 use streams::{MakingSafe, Showing, Stripping, StrippingLines};
-use words::{HELP, OPTIONS, TEXTS, asks_for_line_feeds, asks_for_safe};
+use without_hidden::LeavingOut;
+use words::{
+    HELP, HIDDEN_NOT_SHOWN, OPTIONS, TEXTS, asks_for_line_feeds, asks_for_no_hidden,
+    asks_for_safe,
+};
 
 /// The name at the front of what the program says of failures.
 const PROGRAM: &str = "ansi2text";
@@ -34,10 +38,15 @@ fn main(rt: HostRuntime) -> ExitCode {
     let Ok(size) = screen_size(value_of(options, SHOWN)) else {
         return wrong_size(&rt, PROGRAM);
     };
+    let no_hidden = asks_for_no_hidden(options);
+    if no_hidden && size.is_some() {
+        return misused(&rt, HIDDEN_NOT_SHOWN);
+    }
     let how = How {
         size,
         safe: asks_for_safe(options),
         line_feeds: asks_for_line_feeds(options),
+        no_hidden,
     };
     let output = value_of(options, OUTPUT);
     let names = line.files.as_slice();
@@ -55,6 +64,8 @@ struct How {
     safe: bool,
     /// Lines end with a line feed alone.
     line_feeds: bool,
+    /// Hidden text is left out.
+    no_hidden: bool,
 }
 
 /// Writes the text of each of these files into the folder, which is made where it is not there.
@@ -88,6 +99,16 @@ fn written(rt: HostRuntime, names: &[String], output: Option<&str>, how: How) ->
     };
     let (readers, output) = (inputs.as_mut_slice(), buffered(output));
     let ran = match how.size {
+        None if how.no_hidden && how.safe => {
+            write_each(&LeavingOut { begin: MakingSafe }, b"", readers, output, b"")
+        }
+        None if how.no_hidden && how.line_feeds => {
+            let begin = StrippingLines;
+            write_each(&LeavingOut { begin }, b"", readers, output, b"")
+        }
+        None if how.no_hidden => {
+            write_each(&LeavingOut { begin: Stripping }, b"", readers, output, b"")
+        }
         None if how.safe => write_each(&MakingSafe, b"", readers, output, b""),
         None if how.line_feeds => write_each(&StrippingLines, b"", readers, output, b""),
         None => write_each(&Stripping, b"", readers, output, b""),

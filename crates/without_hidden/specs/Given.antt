@@ -1,0 +1,7 @@
+-- What a source gave, without the text that is hidden.
+use Rattle.ansi_style.specs.Style.{plain}
+use Rattle.each_source.specs.Each.{Given}
+use Rattle.without_hidden.specs.Hidden.{without_hidden}
+
+abbrev pub shown_of : Given → Given
+shown_of given = record given { calls = without_hidden plain given.calls }

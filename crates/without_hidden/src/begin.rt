@@ -1,0 +1,35 @@
+//! The performer of each of many streams, with its hidden text left out.
+ghost use Rattle.std.specs.Prelude.{◌≡◌, IfOk, IfErr};
+ghost use Rattle.each_source.specs.Each.{Given, BeginsWith};
+
+use crate::performer::WithoutHidden;
+use anstyle_parse::io::{Output, Sink, WritingPerformer};
+use each_source::Begin;
+
+/// Makes the performer of each stream as `begin` does, and leaves hidden text out before it.
+#[derive(Debug, Clone, Copy)]
+pub struct LeavingOut<B> {
+    pub begin: B,
+}
+
+/// What is written is what would be written of the calls that are not left out.
+impl<W: Sink, P: WritingPerformer<W>, B: Begin<P, W>> Begin<WithoutHidden<P>, W> for LeavingOut<B> {
+    ghost use Rattle.without_hidden.specs.Given.{shown_of};
+
+    ghost text = { λ it given. B.text it.begin (shown_of given) };
+
+    ghost ending = { λ it given. B.ending it.begin (shown_of given) };
+
+    ghost enough = { λ it. B.enough it.begin };
+
+    fn is_enough(&self, front: &[u8]) -> bool {
+        self.begin.is_enough(front)
+    }
+
+    fn begin(&self, front: &[u8], output: Output<W>) -> Result<WithoutHidden<P>, Output<W>> {
+        match self.begin.begin(front, output) {
+            Ok(performer) => Ok(WithoutHidden::new(performer)),
+            Err(output) => Err(output),
+        }
+    }
+}

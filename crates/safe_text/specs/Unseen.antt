@@ -10,8 +10,9 @@ use Rattle.xterm_palette.specs.Palette.{number_of}
 
 -- one number; what has none is like nothing, and not like another that has none
 abbrev pub is_one : Option ℕ → Option ℕ → Bool
+is_one one None = false
+is_one None (Some m) = false
 is_one (Some n) (Some m) = n == m
-is_one _ _ = false
 
 -- The terminal's own colours have no number, so they are like no other, and not like each other.
 abbrev pub is_one_color : Color → Color → Bool

@@ -15,6 +15,18 @@ fn is_one_color(one: Color, other: Color) -> bool
     }
 }
 
+/// Whether text has the colour of its ground. Most stands on the terminal's own.
+#[inline(always)]
+#[tactic(auto, unfolding(xterm_palette::specs::Palette::number_of))]
+fn is_on_itself(style: &Style) -> bool
+    ensures { result ≡ is_one_color style.now.foreground style.now.background }
+{
+    match style.background {
+        Color::Default => false,
+        ground => is_one_color(style.foreground, ground),
+    }
+}
+
 /// Whether text of this style is not seen where it is drawn: Select Graphic Rendition hides it (8), or it has the colour
 /// of its ground, as xterm's palette has both.
 ///
@@ -25,5 +37,5 @@ fn is_one_color(one: Color, other: Color) -> bool
 pub fn is_unseen(style: &Style) -> bool
     ensures { result ≡ is_unseen style.now }
 {
-    style.hidden || is_one_color(style.foreground, style.background)
+    style.hidden || is_on_itself(style)
 }

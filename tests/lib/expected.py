@@ -697,6 +697,10 @@ PROGRAMS = [
             for words in (["--urls", "--shown"], ["--shown=9x9", "--page", "--urls"])
         ]
         + [
+            (words, b"ansi2html: --no-hidden and --shown are not taken together (see ansi2html --help)")
+            for words in (["--no-hidden", "--shown"], ["--shown=9x9", "--fragment", "--no-hidden"])
+        ]
+        + [
             (words, b"ansi2html: --fragment is not taken with --title, --css, --lang or --scroll (see ansi2html --help)")
             for words in (["--fragment", "--title=x"], ["--css", "a", "--fragment"], ["--page", "--lang=de", "--fragment"], ["--fragment", "--scroll"])
         ]
@@ -749,6 +753,19 @@ PROGRAMS = [
             Mode(["--urls", "--fragment", "--classes"], CLASS_ROWS, (b"A\n", b"A\n"), []),
         ]
         + [
+            Mode(["--no-hidden", *words], LEFT_OUT_ROWS[:4], (b"\x1b[8mb\x1b[mA\n", b"A\n"), [], head, tail, has_blocks=head != b"")
+            for words, head, tail in (
+                (["--fragment"], b"", b""),
+                (["--fragment", "--urls", "--classes"], b"", b""),
+                ([], PAGE_HEAD, PAGE_TAIL),
+                (["--urls"], PAGE_HEAD, PAGE_TAIL),
+            )
+        ]
+        + [
+            Mode(["--no-hidden", "--fragment", "--lines", *words], [("a line", b"\x1b[8mb\x1b[ma\n", numbered(1, b"a\n"))], (b"\x1b[8mb\x1b[mA\n", lambda number: numbered(number, b"A\n")), [])
+            for words in ([], ["--urls"])
+        ]
+        + [
             Mode(words, rows, (b"\x1b[mA<\n", b"A&lt;\n"), [], head, PAGE_TAIL, has_blocks=True)
             for words, rows, head in (
                 (["--scroll", "--page"], html_rows(BOTH)[:5], SCROLLED_HEAD),
@@ -771,7 +788,7 @@ PROGRAMS = [
             )
         ],
         options=[
-            *("--page", "--fragment", "--title=TEXT", "--css=ADDRESS", "--lang=TAG", "--light", "--dark", "--classes", "--lines", "--scroll", "--urls"),
+            *("--page", "--fragment", "--title=TEXT", "--css=ADDRESS", "--lang=TAG", "--light", "--dark", "--classes", "--lines", "--scroll", "--urls", "--no-hidden"),
             "--stylesheet",
             *("--shown", "--shown=COLUMNSxROWS", "--output=FILE"),
         ],

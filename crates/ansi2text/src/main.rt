@@ -8,16 +8,17 @@ mod words;
 ghost use Rattle.std.specs.Prelude.{IfSome};
 ghost use Rattle.screen_text.specs.Recording.{CanBeShown};
 
+use anstyle_parse::io::{Sink, WritingPerformer};
 use command_line::{
     OUTPUT, Target, answered, asked_of, buffered, failed, given_line, have_failed, inputs,
     is_folder, misused, outputs_in, value_of, wrong_size,
 };
-use each_source::write_each;
+use each_source::{Begin, Stopped, Stream, write_each};
 use screen_safe::SafeRows;
 use screen_text::{SHOWN, ShownSize, ShownWriter, TextRows, screen_size};
 use std::process::ExitCode;
 use streams::{MakingSafe, Showing, Stripping, StrippingLines};
-use without_hidden::LeavingOut;
+use without_hidden::{LeavingOut, WithoutHidden};
 use words::{
     HELP, HIDDEN_NOT_SHOWN, OPTIONS, TEXTS, asks_for_line_feeds, asks_for_no_hidden,
     asks_for_safe,
@@ -99,19 +100,9 @@ fn written(rt: HostRuntime, names: &[String], output: Option<&str>, how: How) ->
     };
     let (readers, output) = (inputs.as_mut_slice(), buffered(output));
     let ran = match how.size {
-        None if how.no_hidden && how.safe => {
-            write_each(&LeavingOut { begin: MakingSafe }, b"", readers, output, b"")
-        }
-        None if how.no_hidden && how.line_feeds => {
-            let begin = StrippingLines;
-            write_each(&LeavingOut { begin }, b"", readers, output, b"")
-        }
-        None if how.no_hidden => {
-            write_each(&LeavingOut { begin: Stripping }, b"", readers, output, b"")
-        }
-        None if how.safe => write_each(&MakingSafe, b"", readers, output, b""),
-        None if how.line_feeds => write_each(&StrippingLines, b"", readers, output, b""),
-        None => write_each(&Stripping, b"", readers, output, b""),
+        None if how.safe => write_text(&MakingSafe, how.no_hidden, readers, output),
+        None if how.line_feeds => write_text(&StrippingLines, how.no_hidden, readers, output),
+        None => write_text(&Stripping, how.no_hidden, readers, output),
         Some(size) => {
             let showing = Showing::new(rt.alloc(), size);
             if how.safe {
@@ -122,4 +113,18 @@ fn written(rt: HostRuntime, names: &[String], output: Option<&str>, how: How) ->
         }
     };
     target.ended(have_failed(inputs.as_slice()), ran)
+}
+
+/// Writes the text of these streams, with hidden text or without.
+fn write_text<P: WritingPerformer<W>, B: Begin<P, W> + Copy, R: Stream, W: Sink>(
+    begin: &B,
+    no_hidden: bool,
+    readers: &mut [R],
+    output: W,
+) -> (W, Result<(), Stopped>) {
+    if no_hidden {
+        let begin = LeavingOut { begin: *begin };
+        return write_each::<WithoutHidden<P>, _, _, _>(&begin, b"", readers, output, b"");
+    }
+    write_each::<P, _, _, _>(begin, b"", readers, output, b"")
 }

@@ -8,17 +8,17 @@ mod words;
 ghost use Rattle.std.specs.Prelude.{IfSome};
 ghost use Rattle.screen_text.specs.Recording.{CanBeShown};
 
-use anstyle_parse::io::{Sink, WritingPerformer};
+use anstyle_parse::io::Sink;
 use command_line::{
     OUTPUT, Target, answered, asked_of, buffered, failed, given_line, have_failed, inputs,
     is_folder, misused, outputs_in, value_of, wrong_size,
 };
-use each_source::{Begin, Stopped, Stream, write_each};
+use each_source::{Stopped, Stream, write_each};
 use screen_safe::SafeRows;
 use screen_text::{SHOWN, ShownSize, ShownWriter, TextRows, screen_size};
 use std::process::ExitCode;
 use streams::{MakingSafe, Showing, Stripping, StrippingLines};
-use without_hidden::{LeavingOut, WithoutHidden};
+use without_hidden::LeavingOut;
 use words::{
     HELP, HIDDEN_NOT_SHOWN, OPTIONS, TEXTS, asks_for_line_feeds, asks_for_no_hidden,
     asks_for_safe,
@@ -98,11 +98,15 @@ fn written(rt: HostRuntime, names: &[String], output: Option<&str>, how: How) ->
         Ok(opened) => opened,
         Err(status) => return status,
     };
+    if how.no_hidden {
+        let ran = write_without_hidden(how, inputs.as_mut_slice(), buffered(output));
+        return target.ended(have_failed(inputs.as_slice()), ran);
+    }
     let (readers, output) = (inputs.as_mut_slice(), buffered(output));
     let ran = match how.size {
-        None if how.safe => write_text(&MakingSafe, how.no_hidden, readers, output),
-        None if how.line_feeds => write_text(&StrippingLines, how.no_hidden, readers, output),
-        None => write_text(&Stripping, how.no_hidden, readers, output),
+        None if how.safe => write_each(&MakingSafe, b"", readers, output, b""),
+        None if how.line_feeds => write_each(&StrippingLines, b"", readers, output, b""),
+        None => write_each(&Stripping, b"", readers, output, b""),
         Some(size) => {
             let showing = Showing::new(rt.alloc(), size);
             if how.safe {
@@ -115,16 +119,22 @@ fn written(rt: HostRuntime, names: &[String], output: Option<&str>, how: How) ->
     target.ended(have_failed(inputs.as_slice()), ran)
 }
 
-/// Writes the text of these streams, with hidden text or without.
-fn write_text<P: WritingPerformer<W>, B: Begin<P, W> + Copy, R: Stream, W: Sink>(
-    begin: &B,
-    no_hidden: bool,
+/// Writes the text of these streams without what is hidden.
+fn write_without_hidden<R: Stream, W: Sink>(
+    how: How,
     readers: &mut [R],
     output: W,
 ) -> (W, Result<(), Stopped>) {
-    if no_hidden {
-        let begin = LeavingOut { begin: *begin };
-        return write_each::<WithoutHidden<P>, _, _, _>(&begin, b"", readers, output, b"");
+    if how.safe {
+        let begin = LeavingOut { begin: MakingSafe };
+        write_each(&begin, b"", readers, output, b"")
+    } else if how.line_feeds {
+        let begin = LeavingOut {
+            begin: StrippingLines,
+        };
+        write_each(&begin, b"", readers, output, b"")
+    } else {
+        let begin = LeavingOut { begin: Stripping };
+        write_each(&begin, b"", readers, output, b"")
     }
-    write_each::<P, _, _, _>(begin, b"", readers, output, b"")
 }

@@ -108,7 +108,8 @@ impl<W: Sink> MarkingWriter<W> {
     fn take_printed(&mut self, c: char)
         ensures { TakesMarked W.Sink self.old (print c ∷ []) self.new }
     {
-        self.mark(is_unseen(&self.style));
+        let hidden = is_unseen(&self.style);
+        self.mark(hidden);
         self.writer.take(c);
     }
 
@@ -185,7 +186,8 @@ impl<W: Sink> PerformText for MarkingWriter<W> {
     #[inline]
     fn print_text(&mut self, text: &str) {
         if !text.is_empty() {
-            self.mark(is_unseen(&self.style));
+            let hidden = is_unseen(&self.style);
+            self.mark(hidden);
             self.writer.print_text(text);
         }
     }

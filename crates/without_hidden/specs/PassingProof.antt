@@ -28,7 +28,7 @@ module _ {P : Type 0} (means : P → Call → P → Type 0) (receives : P → Li
   one-where true old call new is = follows.one old call new is
   one-where false old call new is = subst (λ (p : P). receives old [] p) (sym is) (follows.none old)
 
-  shown-none : (it : WithoutHidden P) → ReceivesShown receives it [] it
+  pub shown-none : (it : WithoutHidden P) → ReceivesShown receives it [] it
   shown-none it = record { performer = follows.none (performer_in it); style = refl }
 
   shown-one : (old : WithoutHidden P) (call : Call) (new : WithoutHidden P) → HandsOn means old call new → ReceivesShown receives old (call ∷ []) new
@@ -37,7 +37,7 @@ module _ {P : Type 0} (means : P → Call → P → Type 0) (receives : P → Li
     style = is.style;
   }
 
-  shown-more : (old middle new : WithoutHidden P) (calls more : List Call) → ReceivesShown receives old calls middle → ReceivesShown receives middle more new
+  pub shown-more : (old middle new : WithoutHidden P) (calls more : List Call) → ReceivesShown receives old calls middle → ReceivesShown receives middle more new
       → ReceivesShown receives old (calls ++ more) new
   shown-more old middle new calls more first second =
       let then_received : receives (performer_in middle) (without_hidden (style_from (style_in old) calls) more) (performer_in new) =

@@ -1,7 +1,7 @@
 -- Marks where hidden text begins and ends, and what a writer with marks does by calls.
 use Rattle.std.proofs.Common.{◌≡◌, ℕ, Bool, true, false, List, [], ◌∷◌, ◌++◌, map, length, refl, sym, ap, ap₂, ◌∙◌, subst, append_assoc, append-nil}
 use Rattle.std.specs.Bool.{beq}
-use Rattle.std.specs.Prelude.{◌==◌, not, if◌then◌else◌}
+use Rattle.std.specs.Prelude.{◌==◌, ◌||◌, not, if◌then◌else◌}
 use Rattle.std.specs.Str.{encode_utf8_all, chars, IsUtf8}
 use Rattle.std.proofs.lemmas.Str.{chars-encodes}
 use Rattle.anstyle_parse.specs.declared.io.devices.Sink.{Ghosts as SinkOf}
@@ -31,6 +31,12 @@ flag-same true true same = refl
 flag-same false false same = refl
 flag-same true false same = absurd (cc same)
 flag-same false true same = absurd (cc same)
+
+-- neither of two holds
+pub neither : (a b : Bool) → (a || b) ≡ false → (a ≡ false) × (b ≡ false)
+neither false false none = (refl, refl)
+neither false true none = absurd (cc none)
+neither true b none = absurd (cc none)
 
 abbrev pub hiding : Style → Bool → Hiding
 hiding style on = record { style = style; is_open = on }

@@ -1,8 +1,9 @@
 //! The performer that writes safe text with marks where hidden text begins and ends.
-ghost use Rattle.std.specs.Prelude.{◌≡◌, ◌∷◌, [], false, map, chars};
+ghost use Rattle.std.specs.Prelude.{◌≡◌, ◌∷◌, [], false, ◌||◌, map, chars};
 ghost use Rattle.anstyle_parse.specs.Stream.Call.{print, execute};
 ghost use Rattle.anstyle_parse.specs.Stream.Texts.{is_layout, layout_call};
 ghost use Rattle.safe_text.specs.Marks.{mark_between, decided_marked, undecided_marked};
+ghost use Rattle.safe_text.specs.Unseen.{is_unseen};
 
 use crate::performer::{SafeWriter, Standing};
 use crate::unseen::is_unseen;
@@ -104,6 +105,14 @@ impl<W: Sink> MarkingWriter<W> {
         }
     }
 
+    /// Whether marks come with a text: it is hidden, or hidden text is open before it.
+    #[inline(always)]
+    fn has_marks(&self) -> bool
+        ensures { result ≡ (open_in self.now || is_unseen (style_in self.now)) }
+    {
+        self.is_open || is_unseen(&self.style)
+    }
+
     /// Takes a character that is printed.
     fn take_printed(&mut self, c: char)
         ensures { TakesMarked W.Sink self.old (print c ∷ []) self.new }
@@ -194,7 +203,7 @@ impl<W: Sink> PerformText for MarkingWriter<W> {
 
     #[inline]
     fn print_with_layout(&mut self, text: &str) {
-        if self.is_open || is_unseen(&self.style) {
+        if self.has_marks() {
             self.take_each(text);
         } else {
             self.writer.print_with_layout(text);

@@ -12,11 +12,11 @@ ghost use Rattle.std.specs.Prelude.{IfSome};
 ghost use Rattle.screen_text.specs.Recording.{CanBeShown};
 
 use ansi_html::{Scheme, Styling};
+use anstyle_parse::io::{Sink, WritingPerformer};
 use command_line::{
     OUTPUT, Target, answered, asked_of, buffered, failed, given_line, have_failed, inputs,
     is_folder, misused, outputs_in, value_of, wrong_size,
 };
-use anstyle_parse::io::{Sink, WritingPerformer};
 use each_source::{Begin, Stopped, Stream, write_each};
 use form::{Form, Said, write_stylesheet};
 use names::title_of;

@@ -20,8 +20,7 @@ use std::process::ExitCode;
 use streams::{MakingSafe, Showing, Stripping, StrippingLines};
 use without_hidden::LeavingOut;
 use words::{
-    HELP, HIDDEN_NOT_SHOWN, OPTIONS, TEXTS, asks_for_line_feeds, asks_for_no_hidden,
-    asks_for_safe,
+    HELP, HIDDEN_NOT_SHOWN, OPTIONS, TEXTS, asks_for_line_feeds, asks_for_no_hidden, asks_for_safe,
 };
 
 /// The name at the front of what the program says of failures.

@@ -83,12 +83,13 @@ impl SafeState {
     pub fn new() -> SafeState
         ensures { StandsFor result [] }
     {
+        let style = Style::default();
         SafeState {
             stream: StreamState::new(),
             before: 0,
             held: 0,
             is_open: 0,
-            style: StyleBytes::of(Style::default()),
+            style: StyleBytes::of(style),
         }
     }
 

@@ -11,13 +11,12 @@ use Rattle.anstyle_parse.specs.Io.AddingProof.{Adds-append}
 use Rattle.anstyle_parse.specs.Stream.Call.{Call, print, execute}
 use Rattle.anstyle_parse.specs.Stream.Texts.{is_layout, layout_call}
 use Rattle.ansi_style.specs.declared.style.Style.{Style}
-use Rattle.ansi_style.specs.Style.{plain}
 use Rattle.safe_text.specs.declared.performer.SafeWriter.{SafeWriter}
 use Rattle.safe_text.specs.declared.marking.MarkingWriter.{MarkingWriter}
 use Rattle.safe_text.specs.Safe.{characters_of, characters, safe_from}
 use Rattle.safe_text.specs.Decided.{decided_from, waiting, last_from, undecided_from}
 use Rattle.safe_text.specs.Unseen.{is_unseen}
-use Rattle.safe_text.specs.Marks.{Hiding, nothing_hidden, open_after, hiding_after, mark_of, mark_between, marked_of, marked_from, hiding_from, closing}
+use Rattle.safe_text.specs.Marks.{Hiding, open_after, hiding_after, mark_of, mark_between, marked_of, marked_from, hiding_from, closing}
 use Rattle.safe_text.specs.Writer.{output_of, before_in, held_in, text_by, ending_from, Takes}
 use Rattle.safe_text.specs.TakingProof.{held-waits, Takes-none, Takes-append}
 use Rattle.safe_text.specs.MarkingProof.{ends-marked}

@@ -11,10 +11,8 @@ ghost use Rattle.safe_text.specs.Reading.{read_back, with_line_feeds, told, told
 ghost use Rattle.safe_text.specs.Decided.{decided, undecided};
 ghost use Rattle.safe_text.specs.Marks.{marked, safe_marked, decided_marked, undecided_marked, without_marks, told_by, NeverHides};
 ghost use Rattle.ansi_style.specs.Style.{plain};
-ghost use Rattle.ansi_style.specs.Rendition.{style_after};
 
 use ansi_strip::laws::{clean_text, stripped_twice};
-use ansi_style::Style;
 use anstyle_parse::laws::{bounds, calls_are_lawful, calls_of_bytes};
 
 /// What is decided of calls, and then what waits at their end, is their safe text: also with marks.

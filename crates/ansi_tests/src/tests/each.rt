@@ -48,6 +48,7 @@ impl<W: Sink> Begin<Stripper<W>, W> for Stripping {
 }
 
 /// The same, once three bytes of it have come.
+#[derive(Clone, Copy)]
 struct Waiting;
 
 impl<W: Sink> Begin<Stripper<W>, W> for Waiting {

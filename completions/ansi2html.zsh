@@ -12,6 +12,7 @@ _arguments \
     '--lines[write lines that can be linked to, with numbers]' \
     '--scroll[wrap no long lines]' \
     '--urls[make links of addresses in the text]' \
+    '--no-hidden[leave out the text that a terminal hides]' \
     '--stylesheet[write the stylesheet of classes, lines and pages]' \
     '--shown=-[write what a terminal, or one of this size, showed]::COLUMNSxROWS:' \
     '(-o --output)'{-o,--output=}'[write to this file, or a page of each file to this folder/]:FILE:_files' \

@@ -5,8 +5,8 @@
  * script needs it. LF, VT and FF are a line feed, and a carriage return before a line feed goes. Each other character
  * is written visibly, as <U+202E>: controls, what turns the order of text round, and what shows nothing. So is the < of
  * a <U+ that stands in the stream, as <U+003C>. So the text says which characters there were. Text that the stream
- * hides (SGR 8) stands between <U+hidden> and <U+shown>, in each line by itself. Bytes that belong to no character, and
- * BEL, are read as ansi_strip.h says. It is what `ansi2text --safe` writes; ansi2text(1) says more.
+ * hides (SGR 8), or that has the colour of its ground in xterm's palette, stands between <U+hidden> and <U+shown>, in
+ * each line by itself. Bytes that belong to no character, and BEL, are read as ansi_strip.h says. It is what `ansi2text --safe` writes; ansi2text(1) says more.
  *
  * A stream comes in pieces of any size, cut anywhere: its text, and what ends it, is the same. There is
  * nothing to allocate or to free, no input is refused, and no call fails but for a room that is too small.
@@ -54,14 +54,14 @@ extern "C" {
  * read of it, and ten bytes more; mostly it is as long.) */
 #define ANSI_SAFE_ROOM(count) (40 * (size_t)(count) + 40)
 
-/* Where a stream and its text stand between two pieces: 1,064 bytes, which belong to the caller.
+/* Where a stream and its text stand between two pieces: 1,080 bytes, which belong to the caller.
  *
  * One of zero bytes begins a stream (`= {0}` in C, `= {}` in C++), and so does one that
  * ansi_safe_init was given. Any bytes in it are valid. It may be copied, also to another
  * process: the copy goes on as the first does. */
 typedef struct ansi_safe {
     size_t length;
-    unsigned char others[1056];
+    unsigned char others[1072];
 } ansi_safe;
 
 /* Makes the state one that begins a stream, whatever it was. */

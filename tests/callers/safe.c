@@ -18,7 +18,7 @@
 #include <stdlib.h>
 #include <string.h>
 
-static_assert(sizeof(struct ansi_safe) == 1064, "a state has 1,064 bytes");
+static_assert(sizeof(struct ansi_safe) == 1080, "a state has 1,080 bytes");
 static_assert(offsetof(ansi_safe, others) == sizeof(size_t), "nothing stands between");
 static_assert(ANSI_SAFE_LEAST_ROOM == 60 && ANSI_SAFE_END_ROOM == 50, "what one byte and an end may need");
 static_assert(ANSI_SAFE_ROOM(0) == 40, "forty bytes for each, and forty more");

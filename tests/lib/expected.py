@@ -11,7 +11,7 @@ from lib.hostile_streams import BLOCK, SIZE, WHOLE, stream, text, times
 from lib.log_rows import BEGUN_ROWS, LINES_CUT, READ_ROWS, RETURN_ROWS
 from lib.modes import ROOM_SHOWN, Mode, Program
 from lib.refusals import PARSELOG_USAGE, refused_by, unknown, wants, wrong_size
-from lib.safe_rows import HIDDEN_ROWS, SAFE_ROWS, SAFE_SHOWN_ROWS
+from lib.safe_rows import HIDDEN_ROWS, LEFT_OUT_ROWS, SAFE_LEFT_OUT_ROWS, SAFE_ROWS, SAFE_SHOWN_ROWS
 from lib.url_rows import URL_CUT, URL_ROWS, address
 
 
@@ -646,12 +646,19 @@ PROGRAMS = [
         + [([word], wrong_size(b"ansi2text")) for word in ("--shown=", "--shown=1x1", "--shown=80", "--shown=80x1001", "--shown=80x2X4", "--shown==80x24")]
         + [(["--shown", "--shown=0x0"], wrong_size(b"ansi2text"))]
         + [(["--safe", "--shown=1x1"], wrong_size(b"ansi2text"))]
+        + [
+            (words, b"ansi2text: --no-hidden and --shown are not taken together (see ansi2text --help)")
+            for words in (["--no-hidden", "--shown"], ["--shown=9x9", "--safe", "--no-hidden"])
+        ]
         + [(["--shown", *words], wrong_size(b"ansi2text")) for words in (["1x1"], ["80x1001"], ["9x9", "--shown", "0x24"], ["99999999999999999999x1"])],
         [
             Mode([], STRIP_ROWS, (b"\x1b[1mA\n", b"A\n"), STRIP_HOSTILE, stays=True, cut=STRIP_CUT),
             Mode(["--lf"], LINES_ROWS, (b"\x1b[1mA\r\n", b"A\n"), STRIP_HOSTILE[:-1], cut=LINES_CUT),
             Mode(["--safe"], SAFE_ROWS + HIDDEN_ROWS, (b"\x1b[1mA<\r\n", b"A<\n"), []),
             Mode(["--lf", "--safe"], SAFE_ROWS + HIDDEN_ROWS, (b"\x1b[1mA<\r\n", b"A<\n"), []),
+            Mode(["--no-hidden"], STRIP_ROWS + LEFT_OUT_ROWS, (b"\x1b[8mb\x1b[mA\n", b"A\n"), STRIP_HOSTILE, stays=True, cut=STRIP_CUT),
+            Mode(["--no-hidden", "--lf"], LINES_ROWS, (b"\x1b[8mb\x1b[mA\r\n", b"A\n"), [], cut=LINES_CUT),
+            Mode(["--safe", "--no-hidden"], SAFE_ROWS + SAFE_LEFT_OUT_ROWS, (b"\x1b[8mb\x1b[mA<\r\n", b"A<\n"), []),
             Mode(["--shown"], SHOWN_USUAL_ROWS, (b"\x1b[1mA\n", b"A\n"), shown_hostile(100), stays=True, waits=True, room=ROOM_SHOWN),
             Mode(["--shown=80x24"], SHOWN_ROWS, (b"\x1b[1mA\n", b"A\n"), shown_hostile(24), stays=True, waits=True),
             Mode(["--shown=9x9", "--shown", "--lf"], SHOWN_USUAL_ROWS, (b"\x1b[1mA\r\n", b"A\n"), [], stays=True, waits=True),
@@ -665,8 +672,8 @@ PROGRAMS = [
             Mode(["--shown=9x9", "--shown", "20X6", "--safe", "--lf"], SHOWN_NARROW_ROWS, (b"A\b\n", b"A\n"), [], stays=True, waits=True),
             Mode(["--shown", "20x6", "--shown", "80x24"], SHOWN_ROWS[-3:], (b"A\b\n", b"A\n"), [], stays=True, waits=True),
         ],
-        options=["--safe", "--lf", "--shown", "--shown=COLUMNSxROWS", "--output=FILE"],
-        files=[([], []), (["--lf"], ["--lf"]), (["--safe"], ["--safe"]), (["--shown"], ["--shown"])],
+        options=["--safe", "--lf", "--no-hidden", "--shown", "--shown=COLUMNSxROWS", "--output=FILE"],
+        files=[([], []), (["--lf"], ["--lf"]), (["--no-hidden"], ["--no-hidden"]), (["--safe"], ["--safe"]), (["--shown"], ["--shown"])],
     ),
     Program(
         "ansi2html",
@@ -688,6 +695,10 @@ PROGRAMS = [
         + [
             (words, b"ansi2html: --urls and --shown are not taken together (see ansi2html --help)")
             for words in (["--urls", "--shown"], ["--shown=9x9", "--page", "--urls"])
+        ]
+        + [
+            (words, b"ansi2html: --no-hidden and --shown are not taken together (see ansi2html --help)")
+            for words in (["--no-hidden", "--shown"], ["--shown=9x9", "--fragment", "--no-hidden"])
         ]
         + [
             (words, b"ansi2html: --fragment is not taken with --title, --css, --lang or --scroll (see ansi2html --help)")
@@ -742,6 +753,19 @@ PROGRAMS = [
             Mode(["--urls", "--fragment", "--classes"], CLASS_ROWS, (b"A\n", b"A\n"), []),
         ]
         + [
+            Mode(["--no-hidden", *words], LEFT_OUT_ROWS[:4], (b"\x1b[8mb\x1b[mA\n", b"A\n"), [], head, tail, has_blocks=head != b"")
+            for words, head, tail in (
+                (["--fragment"], b"", b""),
+                (["--fragment", "--urls", "--classes"], b"", b""),
+                ([], PAGE_HEAD, PAGE_TAIL),
+                (["--urls"], PAGE_HEAD, PAGE_TAIL),
+            )
+        ]
+        + [
+            Mode(["--no-hidden", "--fragment", "--lines", *words], [("a line", b"\x1b[8mb\x1b[ma\n", numbered(1, b"a\n"))], (b"\x1b[8mb\x1b[mA\n", lambda number: numbered(number, b"A\n")), [])
+            for words in ([], ["--urls"])
+        ]
+        + [
             Mode(words, rows, (b"\x1b[mA<\n", b"A&lt;\n"), [], head, PAGE_TAIL, has_blocks=True)
             for words, rows, head in (
                 (["--scroll", "--page"], html_rows(BOTH)[:5], SCROLLED_HEAD),
@@ -764,7 +788,7 @@ PROGRAMS = [
             )
         ],
         options=[
-            *("--page", "--fragment", "--title=TEXT", "--css=ADDRESS", "--lang=TAG", "--light", "--dark", "--classes", "--lines", "--scroll", "--urls"),
+            *("--page", "--fragment", "--title=TEXT", "--css=ADDRESS", "--lang=TAG", "--light", "--dark", "--classes", "--lines", "--scroll", "--urls", "--no-hidden"),
             "--stylesheet",
             *("--shown", "--shown=COLUMNSxROWS", "--output=FILE"),
         ],

@@ -103,7 +103,7 @@ PHRASES = {
     "man/ansi2html.1": [
         *STATUSES, *OF_SHOWN, *CUT_OFF, "del (7f) and " + C1, "the default, named, 256 and red", "links (osc 8) whose uri", "was not cut at {MAX_OSC_RAW} bytes or {MAX_OSC_PARTS} parts",
         "hyphens, {MOST_OF_A_TAG} at most", "of the colours 16 to 255", 'data-line="10"', "of more than {ADDRESS} bytes", "the link (osc 8) in which", "the last {MOST_KEPT} that began",
-        'in blocks of {LINES_A_BLOCK} lines each, <span data-lines="{LINES_A_BLOCK}">', "(css containment, 4)", "links (osc 8) to other schemes",
+        'in blocks of {LINES_A_BLOCK} lines each, <span data-lines="{LINES_A_BLOCK}">', "(css containment, 4)", "links (osc 8) to other schemes", "hides (sgr {hidden}), until 28 or 0",
         "each byte of text earns {BYTE_EARNS} of them, and each line feed {FEED_EARNS}", "with {FEED_EARNS} for each line feed so far",
     ],
     "man/ansi2screen.1": [
@@ -114,7 +114,7 @@ PHRASES = {
     "man/ansi2text.1": [
         *STATUSES, *OF_SHOWN, *CUT_OFF, "all other control characters from 00 to 1f", "del (7f) and the characters " + C1, "is broken becomes u+fffd", "each byte a0 to ff that belongs to no character",
         "a byte 80 to 9f by itself leaves nothing",
-        "also u+007f to u+009f", "as <u+202e>: its number in base 16", "written as <u+003c>", "(sgr {hidden}, until 28 or 0)", "u+200d between two emoji", "u+200c after a virama", "u+200b between letters",
+        "also u+007f to u+009f", "as <u+202e>: its number in base 16", "written as <u+003c>", "what sgr {hidden} hides, until 28 or 0", "hides (sgr {hidden}), until 28 or 0", "u+200d between two emoji", "u+200c after a virama", "u+200b between letters",
         "u+fe0e and u+fe0f after an emoji", "erased, by ed 2 or by ed 0 at its first cell (as", "table 3-7",
     ],
     "man/parselog.1": [

@@ -79,7 +79,7 @@ SAFE_ROWS = rows(
     *BEGUN_ROWS,
 )
 
-# Hidden text, as Select Graphic Rendition hides it, which the programs mark.
+# Hidden text, as Select Graphic Rendition hides it, or in the colour of its ground, which the programs mark.
 HIDDEN_ROWS = rows(
     ("hidden text, until 28", b"user \x1b[8msecret\x1b[28m ok\n", b"user <U+hidden>secret<U+shown> ok\n"),
     ("hidden text, until 0", b"\x1b[8ma\x1b[0mb", b"<U+hidden>a<U+shown>b"),
@@ -103,6 +103,30 @@ HIDDEN_ROWS = rows(
     ("a broken character", b"\x1b[8m\xe2\x82\x1b[ma", "<U+hidden>\ufffd<U+shown>a"),
     ("hidden blanks", b"a\x1b[8m  \x1b[mb", b"a<U+hidden>  <U+shown>b"),
     ("what shows nothing in hidden text", "\x1b[8ma\u202e\x1b[mb", "<U+hidden>a<U+202E><U+shown>b"),
+    # text in the colour of its ground
+    ("black on black", b"\x1b[30;40mx", b"<U+hidden>x<U+shown>"),
+    ("white on white, by red, green and blue", b"\x1b[38;2;255;255;255;48;2;255;255;255mx", b"<U+hidden>x<U+shown>"),
+    ("red on red, until 39", b"\x1b[31;41mx\x1b[39my", b"<U+hidden>x<U+shown>y"),
+    ("red on red, until 49", b"\x1b[31;41mx\x1b[49my", b"<U+hidden>x<U+shown>y"),
+    ("red on red, until 0", b"\x1b[31;41mx\x1b[0my", b"<U+hidden>x<U+shown>y"),
+    ("red on red, until another ground", b"\x1b[31;41mx\x1b[42my", b"<U+hidden>x<U+shown>y"),
+    ("a ground that comes later", b"\x1b[31mx\x1b[41my\x1b[m", b"x<U+hidden>y<U+shown>"),
+    ("red of the cube, and by red, green and blue", b"\x1b[38;5;196;48;2;255;0;0mx", b"<U+hidden>x<U+shown>"),
+    ("red of the sixteen, by red, green and blue", b"\x1b[31;48;2;205;0;0mx\x1b[91my\x1b[48:2::255:0:0mz", b"<U+hidden>x<U+shown>y<U+hidden>z<U+shown>"),
+    ("each of the sixteen by its number", b"".join(b"\x1b[%d;48;5;%dmx" % (30 + n if n < 8 else 82 + n, n) for n in range(16)), b"<U+hidden>%s<U+shown>" % (16 * b"x")),
+    ("a grey by its number, and by red, green and blue", b"\x1b[38;5;232;48;2;8;8;8mx\x1b[38;5;255;48;2;238;238;238my", b"<U+hidden>xy<U+shown>"),
+    ("steps of the cube", b"\x1b[38;5;17;48;2;0;0;95mx\x1b[38;5;67;48;2;95;135;175my", b"<U+hidden>xy<U+shown>"),
+    ("black of the cube on black", b"\x1b[38;5;16;40mx", b"<U+hidden>x<U+shown>"),
+    ("white of the cube on bright white", b"\x1b[38;5;231;107mx", b"<U+hidden>x<U+shown>"),
+    ("black on green", b"\x1b[30;42mx", b"x"),
+    ("a colour and the same in bright", b"\x1b[31;101mx\x1b[90;40my", b"xy"),
+    ("bold text is not bright", b"\x1b[1;31;101mx\x1b[41my", b"x<U+hidden>y<U+shown>"),
+    ("near colours", b"\x1b[38;2;0;0;1;40mx", b"x"),
+    ("the terminal's own colours", b"\x1b[39;49mx\x1b[30my\x1b[39;40mz\x1b[7mz", b"xyzz"),
+    ("a colour on itself in reverse video", b"\x1b[7;34;44mx\x1b[27my\x1b[mz", b"<U+hidden>xy<U+shown>z"),
+    ("a colour on itself that SGR 8 hides too", b"\x1b[8;34;44mx\x1b[28my\x1b[8;39mz\x1b[28m!", b"<U+hidden>xyz<U+shown>!"),
+    ("lines of a colour on itself", b"\x1b[30;40ma\nb\tc\x1b[m\n", b"<U+hidden>a<U+shown>\n<U+hidden>b<U+shown>\t<U+hidden>c<U+shown>\n"),
+    ("blanks of a ground alone", b"\x1b[41m  \x1b[m", b"  "),
     # nothing of a stream looks as a mark, nor does what stands beside one
     ("forged marks", b"<U+hidden>a<U+shown>", b"<U+003C>U+hidden>a<U+003C>U+shown>"),
     ("forged marks in hidden text", b"\x1b[8ma<U+shown>b\x1b[m", b"<U+hidden>a<U+003C>U+shown>b<U+shown>"),
@@ -135,5 +159,26 @@ SAFE_SHOWN_ROWS = rows(
     ("hidden text that wraps", b"\x1b[8m12345678abc\x1b[md\r\n", b"<U+hidden>12345678a<U+shown><U+hidden>bc<U+shown>d\n"),
     ("a wide character that is hidden", "\x1b[8m\u5b57\x1b[ma\r\n", "<U+hidden>\u5b57<U+shown>a\n"),
     ("a place between where nothing was printed", b"\x1b[8ma\x1b[Cb\x1b[m\r\n", b"<U+hidden>a<U+shown> <U+hidden>b<U+shown>\n"),
+    ("a colour on itself", b"\x1b[30;40mab\x1b[42mc\x1b[m\r\n", b"<U+hidden>ab<U+shown>c\n"),
     ("forged marks on a screen", b"<U+shown>\r\n", b"<U+003C>U+shown>\n"),
+)
+
+# What --no-hidden writes, and of what --safe would mark with it.
+LEFT_OUT_ROWS = rows(
+    ("a note of Jenkins", b"\x1b[8mha:////4AbC+/w==\x1b[0mStarted by user\n", b"Started by user\n"),
+    ("hidden text, until 28", b"a\x1b[8mb\x1b[28mc\n", b"ac\n"),
+    ("hidden text, until a sequence with no code", b"a\x1b[1;8mb\x1b[31mc\x1b[md", b"ad"),
+    ("hidden text at the end", b"a\x1b[8mb", b"a"),
+    ("lines of hidden text", b"a\x1b[8mb\r\nc\td\n\x1b[me\n", b"a\r\n\t\ne\n"),
+    ("hidden and shown at once", b"\x1b[8;28ma\x1b[28;8mb", b"a"),
+    ("8 in another sequence", b"\x1b[8Ja\x1b[?8mb\x1b[38;5;8mc", b"abc"),
+    ("a hidden character of two bytes, and a broken one", b"\x1b[8m\xc3\xa9\xe2\x82\x1b[m\xc3\xa9", b"\xc3\xa9"),
+    ("a hidden link and a title", b"\x1b[8ma\x1b]8;;https://e.org\x07b\x1b]0;t\x07\x1b[mc", b"c"),
+    ("a colour on itself", b"\x1b[30;40ma\x1b[m", b"a"),
+)
+
+SAFE_LEFT_OUT_ROWS = rows(
+    ("hidden text", b"a\x1b[8mb\x1b[28mc\x07", b"ac<U+0007>"),
+    ("a colour on itself", b"\x1b[8ma\x1b[28;30;40mb\x1b[mc", b"<U+hidden>b<U+shown>c"),
+    ("a less sign before hidden text", b"<\x1b[8mb\x1b[mU+", b"<U+003C>U+"),
 )

@@ -76,9 +76,9 @@ def bash_cases(name, words, listed, valued):
 def meaning_cases(name):
     """What fish and zsh show of an option is the same."""
     with open("%s/completions/%s.fish" % (ROOT, name), encoding="utf-8") as file:
-        fish = dict(re.findall(r"(?m)-l (\w+).* -d '(.*)'$", file.read()))
+        fish = dict(re.findall(r"(?m)-l ([\w-]+).* -d '(.*)'$", file.read()))
     with open("%s/completions/%s.zsh" % (ROOT, name), encoding="utf-8") as file:
-        zsh = dict(re.findall(r"--(\w+)=?-?\}?'?\[(.*?)\]", file.read()))
+        zsh = dict(re.findall(r"--(\w[\w-]*\w)=?-?\}?'?\[(.*?)\]", file.read()))
     # (in zsh one stands for --shown with and without a size)
     zsh = {option: words.replace(", or one of this size,", "") for option, words in zsh.items()}
     yield "fish and zsh show the same of the options of %s" % name, (fish != zsh or not fish) and "%s and %s" % (fish, zsh)
@@ -119,7 +119,7 @@ def zsh_cases(name, words, listed, valued):
         with Typed(room) as zsh:
             wanted = sorted({it.rstrip("=") for it in listed})
             found = zsh.shown(name + " --", wanted)
-            options = sorted(set(re.findall(r"--\w+", found)))
+            options = sorted(set(re.findall(r"--\w[\w-]*\w", found)))
             yield "zsh completes %s --" % name, options != wanted and "to %s" % found[-800:]
             for typed, completed in TYPED[name]:
                 found = zsh.shown("%s %s" % (name, typed), ["%s %s" % (name, completed)])

@@ -138,6 +138,7 @@ class Calls(unittest.TestCase):
             (3000 * "\u202e" + "<", 3000 * "<U+202E>" + "<"),
             ("plain\n", "plain\n"),
             ("a\x1b[8mb\nc", "a<U+hidden>b<U+shown>\n<U+hidden>c<U+shown>"),
+            ("a\x1b[30;40mb\x1b[42mc", "a<U+hidden>b<U+shown>c"),
             (3000 * "\x1b[8ma\x1b[mb", 3000 * "<U+hidden>a<U+shown>b"),
         ]
         for text, wanted in rows:

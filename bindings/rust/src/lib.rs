@@ -48,7 +48,7 @@ pub mod screen;
 
 /// How many bytes the states of streams hold, as `include/` declares them.
 const PENDING: usize = 1042;
-const OTHERS_OF_SAFE: usize = 1056;
+const OTHERS_OF_SAFE: usize = 1072;
 const OTHERS_OF_HTML: usize = 3184;
 
 #[derive(Clone, Debug)]
@@ -524,8 +524,8 @@ pub fn strip_lf(stream: &(impl AsRef<[u8]> + ?Sized)) -> Cow<'_, str> {
 }
 
 /// The text of terminal output that hides nothing, as `ansi2text --safe` writes it: what shows nothing, turns the order of
-/// text round or is a control is written visibly, as `<U+202E>`. Text that a stream hides (SGR 8) stands between
-/// `<U+hidden>` and `<U+shown>`.
+/// text round or is a control is written visibly, as `<U+202E>`. Text that a stream hides (SGR 8), or that has
+/// the colour of its ground in xterm's palette, stands between `<U+hidden>` and `<U+shown>`.
 ///
 /// Text that is safe as it stands is not copied: it is borrowed.
 #[must_use]

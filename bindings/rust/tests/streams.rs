@@ -57,6 +57,7 @@ fn wholes() {
     assert_eq!(strip_safe(STREAM), "hi \u{20ac}<b><U+0007>\n");
     assert_eq!(strip_safe("a\u{202e}b\r\n\u{9b}<U+0041>"), "a<U+202E>b\n<U+009B><U+003C>U+0041>");
     assert_eq!(strip_safe("a\x1b[8mb\nc"), "a<U+hidden>b<U+shown>\n<U+hidden>c<U+shown>");
+    assert_eq!(strip_safe("a\x1b[30;40mb\x1b[42mc"), "a<U+hidden>b<U+shown>c");
 }
 
 /// What is its own text is borrowed: all of it, or the front of it that is followed by nothing that shows.

@@ -86,3 +86,7 @@ asks_to_scroll words = has_word (codes "--scroll") words
 -- Addresses in the text are links, where some word is --urls.
 abbrev pub asks_for_urls : (words : List (List ℕ)) → Bool
 asks_for_urls words = has_word (codes "--urls") words
+
+-- Hidden text is left out, where some word is --no-hidden.
+abbrev pub asks_for_no_hidden : (words : List (List ℕ)) → Bool
+asks_for_no_hidden words = has_word (codes "--no-hidden") words

@@ -12,22 +12,24 @@ ghost use Rattle.std.specs.Prelude.{IfSome};
 ghost use Rattle.screen_text.specs.Recording.{CanBeShown};
 
 use ansi_html::{Scheme, Styling};
+use anstyle_parse::io::{Sink, WritingPerformer};
 use command_line::{
     OUTPUT, Target, answered, asked_of, buffered, failed, given_line, have_failed, inputs,
     is_folder, misused, outputs_in, value_of, wrong_size,
 };
-use each_source::{Stopped, write_each};
+use each_source::{Begin, Stopped, Stream, write_each};
 use form::{Form, Said, write_stylesheet};
 use names::title_of;
-use parts::{Frame, one_has_failed, parts, write_parts};
+use parts::{Frame, Part, one_has_failed, parts, write_parts};
 use screen_html::{BlockRows, HtmlRows};
 use screen_text::{SHOWN, ShownSize, ShownWriter, screen_size};
 use std::process::ExitCode;
 use streams::{Blocking, BlockingUrls, Converting, ConvertingUrls, Lining, LiningUrls, Showing};
+use without_hidden::{LeavingOut, WithoutHidden};
 use words::{
-    HELP, NO_FILES, NO_LANGUAGE, NOT_OF_A_PAGE, NOT_SHOWN, ONE_FILE, OPTIONS, PAGES,
-    URLS_NOT_SHOWN, asks_for_lines, asks_for_stylesheet, asks_for_urls, asks_to_scroll, form,
-    language, says_of_a_page, scheme, stylesheet_address, styling, title_or,
+    HELP, HIDDEN_NOT_SHOWN, NO_FILES, NO_LANGUAGE, NOT_OF_A_PAGE, NOT_SHOWN, ONE_FILE, OPTIONS,
+    PAGES, URLS_NOT_SHOWN, asks_for_lines, asks_for_no_hidden, asks_for_stylesheet, asks_for_urls,
+    asks_to_scroll, form, language, says_of_a_page, scheme, stylesheet_address, styling, title_or,
 };
 
 /// The name at the front of what the program says of failures.
@@ -65,6 +67,10 @@ fn main(rt: HostRuntime) -> ExitCode {
     if has_urls && size.is_some() {
         return misused(&rt, URLS_NOT_SHOWN);
     }
+    let no_hidden = asks_for_no_hidden(options);
+    if no_hidden && size.is_some() {
+        return misused(&rt, HIDDEN_NOT_SHOWN);
+    }
     let styling = styling(options, scheme);
     let form = form(options);
     if form == Form::Fragment && says_of_a_page(options) {
@@ -94,6 +100,7 @@ fn main(rt: HostRuntime) -> ExitCode {
         frame,
         size,
         has_urls,
+        no_hidden,
     };
     match folder {
         Some(folder) => pages(rt, options, names, folder, how),
@@ -109,6 +116,7 @@ struct How<'a> {
     frame: Frame<'a>,
     size: Option<ShownSize>,
     has_urls: bool,
+    no_hidden: bool,
 }
 
 /// Writes each of these files, as a page or a fragment of its own, into the folder, which is made where it is not
@@ -178,14 +186,14 @@ fn page(rt: HostRuntime, names: &[String], output: Option<&str>, how: How<'_>) -
                 styling,
                 has_numbers,
             };
-            write_parts(&blocking, written, output)
+            write_page(&blocking, how.no_hidden, written, output)
         }
         None => {
             let blocking = Blocking {
                 styling,
                 has_numbers,
             };
-            write_parts(&blocking, written, output)
+            write_page(&blocking, how.no_hidden, written, output)
         }
     };
     target.ended(one_has_failed(parts.as_slice()), ran)
@@ -211,13 +219,43 @@ fn fragment(rt: HostRuntime, names: &[String], output: Option<&str>, how: How<'_
             write_each::<ShownWriter<HtmlRows<_>>, _, _, _>(&showing, b"", readers, output, b"")
         }
         None if has_lines && how.has_urls => {
-            write_each(&LiningUrls { styling }, b"", readers, output, b"")
+            write_text(&LiningUrls { styling }, how.no_hidden, readers, output)
         }
-        None if how.has_urls => write_each(&ConvertingUrls { styling }, b"", readers, output, b""),
-        None if has_lines => write_each(&Lining { styling }, b"", readers, output, b""),
-        None => write_each(&Converting { styling }, b"", readers, output, b""),
+        None if how.has_urls => {
+            write_text(&ConvertingUrls { styling }, how.no_hidden, readers, output)
+        }
+        None if has_lines => write_text(&Lining { styling }, how.no_hidden, readers, output),
+        None => write_text(&Converting { styling }, how.no_hidden, readers, output),
     };
     target.ended(have_failed(inputs.as_slice()), ran)
+}
+
+/// Writes these parts of a page, with hidden text or without.
+fn write_page<P: WritingPerformer<W>, B: Begin<P, W> + Copy, R: Stream, W: Sink>(
+    begin: &B,
+    no_hidden: bool,
+    parts: &mut [Part<R>],
+    output: W,
+) -> (W, Result<(), Stopped>) {
+    if no_hidden {
+        let begin = LeavingOut { begin: *begin };
+        return write_parts::<WithoutHidden<P>, _, _, _>(&begin, parts, output);
+    }
+    write_parts::<P, _, _, _>(begin, parts, output)
+}
+
+/// Writes the text of these streams, with hidden text or without.
+fn write_text<P: WritingPerformer<W>, B: Begin<P, W> + Copy, R: Stream, W: Sink>(
+    begin: &B,
+    no_hidden: bool,
+    readers: &mut [R],
+    output: W,
+) -> (W, Result<(), Stopped>) {
+    if no_hidden {
+        let begin = LeavingOut { begin: *begin };
+        return write_each::<WithoutHidden<P>, _, _, _>(&begin, b"", readers, output, b"");
+    }
+    write_each::<P, _, _, _>(begin, b"", readers, output, b"")
 }
 
 /// Writes the stylesheet.

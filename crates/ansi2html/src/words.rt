@@ -2,7 +2,7 @@
 ghost use Rattle.std.specs.Prelude.{◌≡◌, codes, map, string_bytes, option_copied, unwrap_or};
 ghost use Rattle.std.specs.List.{list_all};
 ghost use Rattle.command_line.specs.Options.{last_value};
-ghost use Rattle.ansi2html.specs.Words.{form_after, form_of, is_of_a_page, says_of_a_page, scheme_after, scheme_of, styling_of, asks_for_stylesheet, is_tag_byte, is_tag, language_of, asks_for_lines, asks_to_scroll, asks_for_urls};
+ghost use Rattle.ansi2html.specs.Words.{form_after, form_of, is_of_a_page, says_of_a_page, scheme_after, scheme_of, styling_of, asks_for_stylesheet, is_tag_byte, is_tag, language_of, asks_for_lines, asks_to_scroll, asks_for_urls, asks_for_no_hidden};
 
 use crate::form::{Form, LANGUAGE};
 use ansi_html::{Scheme, Styling};
@@ -24,6 +24,7 @@ pub const OPTIONS: &[&str] = &[
     "--lines",
     "--scroll",
     "--urls",
+    "--no-hidden",
     SHOWN,
     "--shown=",
     OUTPUT,
@@ -70,13 +71,17 @@ pub const NOT_SHOWN: &str =
 pub const URLS_NOT_SHOWN: &str =
     "ansi2html: --urls and --shown are not taken together (see ansi2html --help)";
 
+/// What is said where text without what is hidden is asked for of what a terminal showed.
+pub const HIDDEN_NOT_SHOWN: &str =
+    "ansi2html: --no-hidden and --shown are not taken together (see ansi2html --help)";
+
 /// What `--help` says.
 pub const HELP: &str = "\
 usage: ansi2html [--page] [--title=TEXT] [--css=ADDRESS] [--lang=TAG] [--scroll]
-                 [--light | --dark] [--classes] [--lines] [--urls]
+                 [--light | --dark] [--classes] [--lines] [--urls] [--no-hidden]
                  [--shown | --shown=COLUMNSxROWS] [-o FILE] [FILE]..
        ansi2html --fragment [--light | --dark] [--classes] [--lines] [--urls]
-                 [--shown | --shown=COLUMNSxROWS] [-o FILE] [FILE]..
+                 [--no-hidden | --shown | --shown=COLUMNSxROWS] [-o FILE] [FILE]..
        ansi2html --stylesheet [--light | --dark] [-o FILE]
 
 Writes the text of files as a web page, in its colours, or as a fragment, to be put into
@@ -106,6 +111,8 @@ next word, as in --title TEXT.
   --scroll                long lines are not wrapped: the page scrolls
   --urls                  addresses in the text that begin with https://, http:// or
                           mailto: are links too. Not with --shown
+  --no-hidden             leave out the text that a terminal hides (SGR 8), as
+                          Jenkins writes notes into its logs; not with --shown
   --stylesheet            write the stylesheet of classes, lines and pages by --css, and
                           read nothing
   --shown                 write what a terminal showed instead: the lines that
@@ -276,4 +283,11 @@ pub fn asks_for_urls(words: &[String]) -> bool
     ensures { result ≡ asks_for_urls (map string_bytes words.now) }
 {
     has_word(words, "--urls")
+}
+
+/// Whether text is asked for without what is hidden.
+pub fn asks_for_no_hidden(words: &[String]) -> bool
+    ensures { result ≡ asks_for_no_hidden (map string_bytes words.now) }
+{
+    has_word(words, "--no-hidden")
 }

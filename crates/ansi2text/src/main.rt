@@ -8,16 +8,20 @@ mod words;
 ghost use Rattle.std.specs.Prelude.{IfSome};
 ghost use Rattle.screen_text.specs.Recording.{CanBeShown};
 
+use anstyle_parse::io::Sink;
 use command_line::{
     OUTPUT, Target, answered, asked_of, buffered, failed, given_line, have_failed, inputs,
-    is_folder, outputs_in, value_of, wrong_size,
+    is_folder, misused, outputs_in, value_of, wrong_size,
 };
-use each_source::write_each;
+use each_source::{Stopped, Stream, write_each};
 use screen_safe::SafeRows;
 use screen_text::{SHOWN, ShownSize, ShownWriter, TextRows, screen_size};
 use std::process::ExitCode;
 use streams::{MakingSafe, Showing, Stripping, StrippingLines};
-use words::{HELP, OPTIONS, TEXTS, asks_for_line_feeds, asks_for_safe};
+use without_hidden::LeavingOut;
+use words::{
+    HELP, HIDDEN_NOT_SHOWN, OPTIONS, TEXTS, asks_for_line_feeds, asks_for_no_hidden, asks_for_safe,
+};
 
 /// The name at the front of what the program says of failures.
 const PROGRAM: &str = "ansi2text";
@@ -34,10 +38,15 @@ fn main(rt: HostRuntime) -> ExitCode {
     let Ok(size) = screen_size(value_of(options, SHOWN)) else {
         return wrong_size(&rt, PROGRAM);
     };
+    let no_hidden = asks_for_no_hidden(options);
+    if no_hidden && size.is_some() {
+        return misused(&rt, HIDDEN_NOT_SHOWN);
+    }
     let how = How {
         size,
         safe: asks_for_safe(options),
         line_feeds: asks_for_line_feeds(options),
+        no_hidden,
     };
     let output = value_of(options, OUTPUT);
     let names = line.files.as_slice();
@@ -55,6 +64,8 @@ struct How {
     safe: bool,
     /// Lines end with a line feed alone.
     line_feeds: bool,
+    /// Hidden text is left out.
+    no_hidden: bool,
 }
 
 /// Writes the text of each of these files into the folder, which is made where it is not there.
@@ -86,6 +97,10 @@ fn written(rt: HostRuntime, names: &[String], output: Option<&str>, how: How) ->
         Ok(opened) => opened,
         Err(status) => return status,
     };
+    if how.no_hidden {
+        let ran = write_without_hidden(how, inputs.as_mut_slice(), buffered(output));
+        return target.ended(have_failed(inputs.as_slice()), ran);
+    }
     let (readers, output) = (inputs.as_mut_slice(), buffered(output));
     let ran = match how.size {
         None if how.safe => write_each(&MakingSafe, b"", readers, output, b""),
@@ -101,4 +116,24 @@ fn written(rt: HostRuntime, names: &[String], output: Option<&str>, how: How) ->
         }
     };
     target.ended(have_failed(inputs.as_slice()), ran)
+}
+
+/// Writes the text of these streams without what is hidden.
+fn write_without_hidden<R: Stream, W: Sink>(
+    how: How,
+    readers: &mut [R],
+    output: W,
+) -> (W, Result<(), Stopped>) {
+    if how.safe {
+        let begin = LeavingOut { begin: MakingSafe };
+        write_each(&begin, b"", readers, output, b"")
+    } else if how.line_feeds {
+        let begin = LeavingOut {
+            begin: StrippingLines,
+        };
+        write_each(&begin, b"", readers, output, b"")
+    } else {
+        let begin = LeavingOut { begin: Stripping };
+        write_each(&begin, b"", readers, output, b"")
+    }
 }

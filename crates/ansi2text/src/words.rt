@@ -1,18 +1,25 @@
 //! The words of the program: its options, and what it says of itself.
 ghost use Rattle.std.specs.Prelude.{◌≡◌, map, string_bytes};
-ghost use Rattle.ansi2text.specs.Words.{asks_for_safe, asks_for_line_feeds};
+ghost use Rattle.ansi2text.specs.Words.{asks_for_safe, asks_for_line_feeds, asks_for_no_hidden};
 
 use command_line::{OUTPUT, Outputs, has_word};
 use screen_text::SHOWN;
 
 /// The options.
-pub const OPTIONS: &[&str] = &[SAFE, LINE_FEEDS, SHOWN, "--shown=", OUTPUT];
+pub const OPTIONS: &[&str] = &[SAFE, LINE_FEEDS, NO_HIDDEN, SHOWN, "--shown=", OUTPUT];
 
 /// What asks for safe text.
 const SAFE: &str = "--safe";
 
 /// What asks for lines that end with a line feed alone.
 const LINE_FEEDS: &str = "--lf";
+
+/// What asks for text without what is hidden.
+const NO_HIDDEN: &str = "--no-hidden";
+
+/// What is said where that is asked for of what a terminal showed.
+pub const HIDDEN_NOT_SHOWN: &str =
+    "ansi2text: --no-hidden and --shown are not taken together (see ansi2text --help)";
 
 /// What it writes of files.
 pub const TEXTS: Outputs<'static> = Outputs {
@@ -22,7 +29,8 @@ pub const TEXTS: Outputs<'static> = Outputs {
 
 /// What `--help` says.
 pub const HELP: &str = "\
-usage: ansi2text [--safe] [--lf] [--shown | --shown=COLUMNSxROWS] [-o FILE] [FILE]..
+usage: ansi2text [--safe] [--lf] [--no-hidden | --shown | --shown=COLUMNSxROWS]
+                 [-o FILE] [FILE]..
 
 Writes the text of files without the escapes of terminals: colours, cursor moves,
 titles and the like, so that it drives no terminal. Input is UTF-8. Each file is a
@@ -31,12 +39,15 @@ name files, whatever they begin with.
 
   --safe                  write text that hides nothing and keeps its order, to
                           review: controls and characters that show nothing or
-                          turn text round are written as <U+202E>, and hidden
-                          text stands between <U+hidden> and <U+shown>; with
-                          --shown of what a terminal showed
+                          turn text round are written as <U+202E>, and text that
+                          is hidden, or has the colour of its ground, stands
+                          between <U+hidden> and <U+shown>; with --shown of what
+                          a terminal showed
   --lf                    drop a carriage return right before a line feed, as
                           dos2unix does: each line of a recording by script ends
                           with both; --safe and --shown never write both
+  --no-hidden             leave out the text that a terminal hides (SGR 8), as
+                          Jenkins writes notes into its logs; not with --shown
   --shown                 write what a terminal showed instead: the lines that
                           scrolled off, and what stands there at the end. Its
                           size is that which a recording by script says in its
@@ -66,6 +77,13 @@ pub fn asks_for_safe(words: &[String]) -> bool
     ensures { result ≡ asks_for_safe (map string_bytes words.now) }
 {
     has_word(words, SAFE)
+}
+
+/// Whether the words ask for text without what is hidden.
+pub fn asks_for_no_hidden(words: &[String]) -> bool
+    ensures { result ≡ asks_for_no_hidden (map string_bytes words.now) }
+{
+    has_word(words, NO_HIDDEN)
 }
 
 /// Whether the words ask for lines that end with a line feed alone.

@@ -3,6 +3,8 @@ ghost use Rattle.std.specs.Prelude.{◌≡◌, ◌==◌, []};
 ghost use Rattle.safe_text.specs.Held.{held_characters};
 ghost use Rattle.safe_pieces.specs.State.{character_numbered, held_numbered, before_in, held_in, hiding_in, StandsFor};
 
+use ansi_style::Style;
+use ansi_style::bytes::StyleBytes;
 use safe_text::{Held, MarkedStanding, Standing};
 use stream_state::StreamState;
 
@@ -19,10 +21,10 @@ pub struct SafeState {
     /// What waits for the next character: 1 a carriage return, 2 `<`, 3 `<U`, 4 to 8 U+200B, U+200C, U+200D, U+FE0E and
     /// U+FE0F; any other number is nothing.
     pub held: u8,
-    /// 1 where Select Graphic Rendition hides the text that comes next (8); any other number where it does not.
-    pub is_hidden: u8,
     /// 1 where hidden text is written last, whose end is not marked yet; any other number where none is.
     pub is_open: u8,
+    /// That of the text that comes next, which says whether it is hidden.
+    pub style: StyleBytes,
 }
 
 /// The character of a number.
@@ -81,12 +83,13 @@ impl SafeState {
     pub fn new() -> SafeState
         ensures { StandsFor result [] }
     {
+        let style = Style::default();
         SafeState {
             stream: StreamState::new(),
             before: 0,
             held: 0,
-            is_hidden: 0,
             is_open: 0,
+            style: StyleBytes::of(style),
         }
     }
 
@@ -94,7 +97,7 @@ impl SafeState {
     pub(crate) fn standing(&self) -> MarkedStanding
         ensures before { result.text.before ≡ before_in self.now }
         ensures held { held_characters result.text.held ≡ held_in self.now }
-        ensures is_hidden { result.is_hidden ≡ (hiding_in self.now).is_hidden }
+        ensures style { result.style ≡ (hiding_in self.now).style }
         ensures is_open { result.is_open ≡ (hiding_in self.now).is_open }
     {
         let text = Standing {
@@ -103,7 +106,7 @@ impl SafeState {
         };
         MarkedStanding {
             text,
-            is_hidden: self.is_hidden == 1,
+            style: self.style.style(),
             is_open: self.is_open == 1,
         }
     }
@@ -112,13 +115,13 @@ impl SafeState {
     pub(crate) fn save(&mut self, standing: MarkedStanding)
         ensures before { before_in self.new ≡ standing.text.before }
         ensures held { held_in self.new ≡ held_characters standing.text.held }
-        ensures is_hidden { (hiding_in self.new).is_hidden ≡ standing.is_hidden }
+        ensures style { (hiding_in self.new).style ≡ standing.style }
         ensures is_open { (hiding_in self.new).is_open ≡ standing.is_open }
         ensures stream { self.new.stream ≡ self.old.stream }
     {
         self.before = u32::from(standing.text.before);
         self.held = held_number(standing.text.held);
-        self.is_hidden = flag_number(standing.is_hidden);
         self.is_open = flag_number(standing.is_open);
+        self.style = StyleBytes::of(standing.style);
     }
 }

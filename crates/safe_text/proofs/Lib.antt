@@ -10,5 +10,4 @@ pub mod ReadLemmas
 pub mod CallLemmas
 pub mod MarkedLemmas
 pub mod PieceLemmas
-pub mod HiddenLemmas
 pub mod ToldLemmas

@@ -1,7 +1,7 @@
 -- Marks where hidden text begins and ends, and what a writer with marks does by calls.
 use Rattle.std.proofs.Common.{◌≡◌, ℕ, Bool, true, false, List, [], ◌∷◌, ◌++◌, map, length, refl, sym, ap, ap₂, ◌∙◌, subst, append_assoc, append-nil}
 use Rattle.std.specs.Bool.{beq}
-use Rattle.std.specs.Prelude.{◌==◌, not, if◌then◌else◌}
+use Rattle.std.specs.Prelude.{◌==◌, ◌||◌, not, if◌then◌else◌}
 use Rattle.std.specs.Str.{encode_utf8_all, chars, IsUtf8}
 use Rattle.std.proofs.lemmas.Str.{chars-encodes}
 use Rattle.anstyle_parse.specs.declared.io.devices.Sink.{Ghosts as SinkOf}
@@ -10,15 +10,17 @@ use Rattle.anstyle_parse.specs.Io.Output.{Adds}
 use Rattle.anstyle_parse.specs.Io.AddingProof.{Adds-append}
 use Rattle.anstyle_parse.specs.Stream.Call.{Call, print, execute}
 use Rattle.anstyle_parse.specs.Stream.Texts.{is_layout, layout_call}
+use Rattle.ansi_style.specs.declared.style.Style.{Style}
 use Rattle.safe_text.specs.declared.performer.SafeWriter.{SafeWriter}
 use Rattle.safe_text.specs.declared.marking.MarkingWriter.{MarkingWriter}
 use Rattle.safe_text.specs.Safe.{characters_of, characters, safe_from}
 use Rattle.safe_text.specs.Decided.{decided_from, waiting, last_from, undecided_from}
-use Rattle.safe_text.specs.Marks.{Hiding, nothing_hidden, open_after, hiding_after, mark_of, mark_between, marked_of, marked_from, hiding_from, closing}
+use Rattle.safe_text.specs.Unseen.{is_unseen}
+use Rattle.safe_text.specs.Marks.{Hiding, open_after, hiding_after, mark_of, mark_between, marked_of, marked_from, hiding_from, closing}
 use Rattle.safe_text.specs.Writer.{output_of, before_in, held_in, text_by, ending_from, Takes}
 use Rattle.safe_text.specs.TakingProof.{held-waits, Takes-none, Takes-append}
 use Rattle.safe_text.specs.MarkingProof.{ends-marked}
-use Rattle.safe_text.specs.MarkingWriter.{writer_in, hidden_in, open_in, hiding_in, output_in, ending_from as marked_ending_from, TakesMarked}
+use Rattle.safe_text.specs.MarkingWriter.{writer_in, style_in, open_in, hiding_in, output_in, ending_from as marked_ending_from, TakesMarked}
 use Rattle.safe_text.proofs.CallLemmas.{characters-prints, characters-layout}
 use Rattle.safe_text.proofs.WholeLemmas.{whole-encoded, encoded-then-safe}
 
@@ -29,11 +31,17 @@ flag-same false false same = refl
 flag-same true false same = absurd (cc same)
 flag-same false true same = absurd (cc same)
 
-abbrev pub hiding : Bool → Bool → Hiding
-hiding hidden on = record { is_hidden = hidden; is_open = on }
+-- neither of two holds
+pub neither : (a b : Bool) → (a || b) ≡ false → (a ≡ false) × (b ≡ false)
+neither false false none = (refl, refl)
+neither false true none = absurd (cc none)
+neither true b none = absurd (cc none)
 
-pub hiding-same : (h i o p : Bool) → h ≡ i → o ≡ p → hiding h o ≡ hiding i p
-hiding-same h i o p hidden on = ap₂ hiding hidden on
+abbrev pub hiding : Style → Bool → Hiding
+hiding style on = record { style = style; is_open = on }
+
+pub hiding-same : (s t : Style) (o p : Bool) → s ≡ t → o ≡ p → hiding s o ≡ hiding t p
+hiding-same s t o p style on = ap₂ hiding style on
 
 -- a mark, or none
 pub between-same : (on : Bool) → mark_between on on ≡ []
@@ -115,20 +123,21 @@ module _ {W : Type 0} (sink : SinkOf W) where
       taken.taken.added (subst (λ t. Adds sink t (output_in new) end) (ends-marked sink old calls new taken) ended))
 
 -- Characters that are printed: a mark before the first at most.
-prints-after : (hidden : Bool) (cs : List ℕ)
-    → (marked_from (record { is_hidden = hidden; is_open = hidden }) (map print cs) ≡ cs)
-    × (hiding_from (record { is_hidden = hidden; is_open = hidden }) (map print cs) ≡ record { is_hidden = hidden; is_open = hidden })
-prints-after hidden [] = (refl, refl)
-prints-after hidden (c ∷ cs) =
-    let rest = prints-after hidden cs in
-    (ap (λ l. (l ++ c ∷ []) ++ marked_from (record { is_hidden = hidden; is_open = hidden }) (map print cs)) (between-same hidden) ∙ ap (λ l. c ∷ l) rest.0, rest.1)
+prints-after : (style : Style) (cs : List ℕ)
+    → (marked_from (hiding style (is_unseen style)) (map print cs) ≡ cs)
+    × (hiding_from (hiding style (is_unseen style)) (map print cs) ≡ hiding style (is_unseen style))
+prints-after style [] = (refl, refl)
+prints-after style (c ∷ cs) =
+    let rest = prints-after style cs in
+    (ap (λ l. (l ++ c ∷ []) ++ marked_from (hiding style (is_unseen style)) (map print cs)) (between-same (is_unseen style)) ∙ ap (λ l. c ∷ l) rest.0, rest.1)
 
 pub prints-marked : (at : Hiding) (cs : List ℕ) → (cs ≡ [] → ⊥)
-    → (marked_from at (map print cs) ≡ mark_between at.is_open at.is_hidden ++ cs) × (hiding_from at (map print cs) ≡ record { is_hidden = at.is_hidden; is_open = at.is_hidden })
+    → (marked_from at (map print cs) ≡ mark_between at.is_open (is_unseen at.style) ++ cs) × (hiding_from at (map print cs) ≡ hiding at.style (is_unseen at.style))
 prints-marked at [] some = absurd (some refl)
 prints-marked at (c ∷ cs) some =
-    let rest = prints-after at.is_hidden cs in
-    (append_assoc (mark_between at.is_open at.is_hidden) (c ∷ []) _ ∙ ap (λ l. mark_between at.is_open at.is_hidden ++ c ∷ l) rest.0, rest.1)
+    let rest = prints-after at.style cs in
+    let mark = mark_between at.is_open (is_unseen at.style) in
+    (append_assoc mark (c ∷ []) _ ∙ ap (λ l. mark ++ c ∷ l) rest.0, rest.1)
 
 -- a text of some bytes has characters
 pub some-characters : (text : List ℕ) → IsUtf8 text → (length text == 0) ≡ false → chars text ≡ [] → ⊥
@@ -139,40 +148,47 @@ some-characters text utf8 some none =
     absurd (cc (sym (ap (λ (t : List ℕ). length t == 0) empty) ∙ some))
 
 -- Where nothing is hidden, a text with layout has no marks.
-layout-one : (c : ℕ) (cs : List ℕ) (t : Bool)
-    → (marked_from nothing_hidden (map layout_call cs) ≡ cs) × (hiding_from nothing_hidden (map layout_call cs) ≡ nothing_hidden)
-    → (marked_from nothing_hidden ((if t then execute c else print c) ∷ map layout_call cs) ≡ c ∷ cs)
-    × (hiding_from nothing_hidden ((if t then execute c else print c) ∷ map layout_call cs) ≡ nothing_hidden)
-layout-one c cs true rest = (ap (λ l. c ∷ l) rest.0, rest.1)
-layout-one c cs false rest = (ap (λ l. c ∷ l) rest.0, rest.1)
+module _ (style : Style) (seen : is_unseen style ≡ false) where
+  abbrev PlainText : List ℕ → List Call → Type 0
+  PlainText cs calls = (marked_from (hiding style false) calls ≡ cs) × (hiding_from (hiding style false) calls ≡ hiding style false)
 
-pub layout-plain : (cs : List ℕ) → (marked_from nothing_hidden (map layout_call cs) ≡ cs) × (hiding_from nothing_hidden (map layout_call cs) ≡ nothing_hidden)
-layout-plain [] = (refl, refl)
-layout-plain (c ∷ cs) = layout-one c cs (is_layout c) (layout-plain cs)
+  plain-printed : (c : ℕ) (cs : List ℕ) (calls : List Call) → PlainText cs calls → PlainText (c ∷ cs) (print c ∷ calls)
+  plain-printed c cs calls rest = (
+    ap (λ t. (mark_between false t ++ c ∷ []) ++ marked_from (hiding style t) calls) seen ∙ ap (λ l. c ∷ l) rest.0,
+    ap (λ t. hiding_from (hiding style t) calls) seen ∙ rest.1,
+  )
+
+  layout-one : (c : ℕ) (cs : List ℕ) (t : Bool) → PlainText cs (map layout_call cs) → PlainText (c ∷ cs) ((if t then execute c else print c) ∷ map layout_call cs)
+  layout-one c cs true rest = (ap (λ l. c ∷ l) rest.0, rest.1)
+  layout-one c cs false rest = plain-printed c cs (map layout_call cs) rest
+
+  pub layout-plain : (cs : List ℕ) → PlainText cs (map layout_call cs)
+  layout-plain [] = (refl, refl)
+  layout-plain (c ∷ cs) = layout-one c cs (is_layout c) (layout-plain cs)
 
 -- So a text is taken: with a mark before it at most, or with layout where nothing is hidden.
 module _ {W : Type 0} (sink : SinkOf W) (old new : MarkingWriter W) (cs : List ℕ) where
   pub text-marked : (between : SafeWriter W) → (cs ≡ [] → ⊥)
-      → Takes sink (writer_in old) (mark_between (open_in old) (hidden_in old)) between → Takes sink between (characters (map print cs)) (writer_in new)
-      → hidden_in new ≡ hidden_in old → open_in new ≡ hidden_in old → TakesMarked sink old (map print cs) new
-  text-marked between some first second hidden on =
+      → Takes sink (writer_in old) (mark_between (open_in old) (is_unseen (style_in old))) between → Takes sink between (characters (map print cs)) (writer_in new)
+      → style_in new ≡ style_in old → open_in new ≡ is_unseen (style_in old) → TakesMarked sink old (map print cs) new
+  text-marked between some first second style on =
       let at : Hiding = hiding_in old in
       let is = prints-marked at cs some in
       record {
         taken = subst (λ l. Takes sink (writer_in old) l (writer_in new)) (sym is.0)
-            (Takes-append sink (writer_in old) between (writer_in new) (mark_between at.is_open at.is_hidden) cs first
+            (Takes-append sink (writer_in old) between (writer_in new) (mark_between at.is_open (is_unseen at.style)) cs first
             (subst (λ l. Takes sink between l (writer_in new)) (characters-prints cs) second));
-        hiding = hiding-same (hidden_in new) at.is_hidden (open_in new) at.is_hidden hidden on ∙ sym is.1;
+        hiding = hiding-same (style_in new) at.style (open_in new) (is_unseen at.style) style on ∙ sym is.1;
       }
 
-  pub layout-marked : hidden_in old ≡ false → open_in old ≡ false → Takes sink (writer_in old) (characters (map layout_call cs)) (writer_in new)
-      → hidden_in new ≡ hidden_in old → open_in new ≡ open_in old → TakesMarked sink old (map layout_call cs) new
-  layout-marked none closed taken hidden on =
-      let same : hiding_in old ≡ nothing_hidden = hiding-same (hidden_in old) false (open_in old) false none closed in
-      let is = layout-plain cs in
+  pub layout-marked : is_unseen (style_in old) ≡ false → open_in old ≡ false → Takes sink (writer_in old) (characters (map layout_call cs)) (writer_in new)
+      → style_in new ≡ style_in old → open_in new ≡ open_in old → TakesMarked sink old (map layout_call cs) new
+  layout-marked seen closed taken style on =
+      let same : hiding_in old ≡ hiding (style_in old) false = ap (hiding (style_in old)) closed in
+      let is = layout-plain (style_in old) seen cs in
       record {
         taken = subst (λ l. Takes sink (writer_in old) l (writer_in new))
             (characters-layout cs ∙ sym (ap (λ at. marked_from at (map layout_call cs)) same ∙ is.0)) taken;
-        hiding = hiding-same (hidden_in new) (hidden_in old) (open_in new) (open_in old) hidden on
+        hiding = hiding-same (style_in new) (style_in old) (open_in new) (open_in old) style on
             ∙ same ∙ sym (ap (λ at. hiding_from at (map layout_call cs)) same ∙ is.1);
       }

@@ -8,8 +8,14 @@ use Rattle.anstyle_parse.specs.Stream.Call.{Call, print, execute, hook, put, unh
 use Rattle.anstyle_parse.specs.Laws.Lawful.{AreLawfulFrom}
 use Rattle.ansi_strip.specs.Strip.{is_left, is_layout}
 use Rattle.safe_text.specs.Safe.{hides, shows, characters_of, characters}
-use Rattle.safe_text.specs.Marks.{Hiding, nothing_hidden, open_after, hiding_after, mark_between, marked_of, marked_from, hiding_from, closing, marked, is_mark, without_marks, NeverHides}
+use Rattle.ansi_style.specs.declared.style.Style.{Style}
+use Rattle.ansi_style.specs.Style.{plain}
+use Rattle.ansi_style.specs.Rendition.{style_after}
+use Rattle.xterm_palette.specs.Palette.{number_of}
+use Rattle.safe_text.specs.Unseen.{is_unseen}
+use Rattle.safe_text.specs.Marks.{Hiding, nothing_hidden, open_after, hiding_after, mark_between, marked_of, marked_from, hiding_from, closing, marked, is_mark, without_marks, IsSeenFrom, NeverHides}
 use Rattle.safe_text.proofs.CallLemmas.{scalars-lawful, scalar-below}
+use Rattle.safe_text.proofs.MarkLemmas.{hiding}
 use Rattle.safe_text.proofs.VisibleLemmas.{scalar-character, no-mark}
 use Rattle.safe_text.proofs.WholeLemmas.{IsItem, all-items, all-append}
 
@@ -97,35 +103,41 @@ without-all calls lawful =
     ∙ append-nil (characters calls)
 
 -- Where nothing is hidden, there are no marks.
-never-marked : (calls : List Call) → NeverHides calls → (marked_from nothing_hidden calls ≡ characters calls) × (hiding_from nothing_hidden calls ≡ nothing_hidden)
-never-marked [] never = (refl, refl)
-never-marked (print c ∷ calls) never = let rest = never-marked calls never.1 in (ap (λ l. c ∷ l) rest.0, rest.1)
-never-marked (execute b ∷ calls) never = let rest = never-marked calls never.1 in (ap (λ l. b ∷ l) rest.0, rest.1)
-never-marked (hook gs is ig f ∷ calls) never = never-marked calls never.1
-never-marked (put b ∷ calls) never = never-marked calls never.1
-never-marked (unhook ∷ calls) never = never-marked calls never.1
-never-marked (osc_dispatch parts bell ∷ calls) never = never-marked calls never.1
-never-marked (csi_dispatch gs is ig f ∷ calls) never =
-    let rest = never-marked calls never.1 in
-    let made : Bool → Hiding = λ hidden. record { is_hidden = hidden; is_open = false } in (
-      ap (λ hidden. marked_from (made hidden) calls) never.0 ∙ rest.0,
-      ap (λ hidden. hiding_from (made hidden) calls) never.0 ∙ rest.1,
+abbrev NoMarks : Style → List Call → Type 0
+NoMarks style calls = (marked_from (hiding style false) calls ≡ characters calls) × ((hiding_from (hiding style false) calls).is_open ≡ false)
+
+never-marked : (style : Style) (calls : List Call) → IsSeenFrom style calls → NoMarks style calls
+never-marked style [] never = (refl, refl)
+never-marked style (print c ∷ calls) never =
+    let rest = never-marked style calls never.1 in (
+      ap (λ t. (mark_between false t ++ c ∷ []) ++ marked_from (hiding style t) calls) never.0 ∙ ap (λ l. c ∷ l) rest.0,
+      ap (λ t. (hiding_from (hiding style t) calls).is_open) never.0 ∙ rest.1,
     )
-never-marked (esc_dispatch is ig f ∷ calls) never = never-marked calls never.1
+never-marked style (execute b ∷ calls) never = let rest = never-marked style calls never.1 in (ap (λ l. b ∷ l) rest.0, rest.1)
+never-marked style (hook gs is ig f ∷ calls) never = never-marked style calls never.1
+never-marked style (put b ∷ calls) never = never-marked style calls never.1
+never-marked style (unhook ∷ calls) never = never-marked style calls never.1
+never-marked style (osc_dispatch parts bell ∷ calls) never = never-marked style calls never.1
+never-marked style (csi_dispatch gs is ig f ∷ calls) never = never-marked (style_after (csi_dispatch gs is ig f) style) calls never.1
+never-marked style (esc_dispatch is ig f ∷ calls) never = never-marked style calls never.1
 
 pub never-marks : (calls : List Call) → NeverHides calls → marked calls ≡ characters calls
 never-marks calls never =
-    let same = never-marked calls never in
-    ap₂ (λ l at. l ++ closing at) same.0 same.1 ∙ append-nil (characters calls)
+    let same = never-marked plain calls never in
+    ap₂ (λ l on. l ++ mark_between on false) same.0 same.1 ∙ append-nil (characters calls)
 
 -- Of what is left by stripping, no call hides.
+seen-plain : is_unseen plain ≡ false
+unfolding is_unseen number_of
+seen-plain = refl
+
 filtered-one : (t : Bool) (b : ℕ) (left : List Call) → NeverHides left → NeverHides (if t then execute b ∷ left else left)
-filtered-one true b left never = (refl, never)
+filtered-one true b left never = (seen-plain, never)
 filtered-one false b left never = never
 
 filtered : (calls : List Call) → NeverHides (filter is_left calls)
 filtered [] = tt
-filtered (print c ∷ calls) = (refl, filtered calls)
+filtered (print c ∷ calls) = (seen-plain, filtered calls)
 filtered (execute b ∷ calls) = filtered-one (is_layout b) b (filter is_left calls) (filtered calls)
 filtered (hook gs is ig f ∷ calls) = filtered calls
 filtered (put b ∷ calls) = filtered calls

@@ -12,12 +12,12 @@ use Rattle.anstyle_parse.proofs.Characters.Encoding.{within_parts}
 use Rattle.ansi_style.specs.declared.style.Style.{Style}
 use Rattle.ansi_style.specs.Style.{plain}
 use Rattle.ansi_style.specs.Rendition.{style_after}
+use Rattle.safe_text.specs.Unseen.{is_unseen}
 use Rattle.safe_text.specs.Safe.{hides, shows, next_of, is_line_end, is_of_line_end, characters_of}
 use Rattle.safe_text.specs.Reading.{read_back, ended_as, with_line_feeds, told_from, told, told_with_line_feeds}
-use Rattle.safe_text.specs.Marks.{Hiding, nothing_hidden, hidden_after, open_after, hiding_after, mark_between, marked_of, marked_from, hiding_from, closing, marked, safe_marked, told_by}
+use Rattle.safe_text.specs.Marks.{Hiding, nothing_hidden, open_after, hiding_after, mark_between, marked_of, marked_from, hiding_from, closing, marked, safe_marked, told_by}
 use Rattle.safe_text.proofs.CallLemmas.{scalars-lawful}
 use Rattle.safe_text.proofs.VisibleLemmas.{scalar-character, no-mark}
-use Rattle.safe_text.proofs.HiddenLemmas.{hidden-kept}
 use Rattle.safe_text.proofs.MarkLemmas.{hiding}
 use Rattle.safe_text.proofs.MarkedLemmas.{marked-items, items-below}
 use Rattle.safe_text.proofs.ReadLemmas.{read-safe}
@@ -69,8 +69,8 @@ no_feed : (c : ℕ) → IsTrue (is_character c) → (c == 0x0A) ≡ false
 no_feed c is = let from = character-from c is in ne_eqb c 0x0A (λ e. omega (arith, e, from))
 
 -- all that is marked from there
-abbrev rest : (hidden on : Bool) → List Call → List ℕ
-rest hidden on calls = marked_from (hiding hidden on) calls ++ closing (hiding_from (hiding hidden on) calls)
+abbrev rest : Style → (on : Bool) → List Call → List ℕ
+rest style on calls = marked_from (hiding style on) calls ++ closing (hiding_from (hiding style on) calls)
 
 first-printed : (c : ℕ) (hidden : Bool) (more : List ℕ) → (c == 0x0A) ≡ false
     → (next_of (((mark_between false hidden ++ c ∷ []) ++ more)) == 0x0A) ≡ (c == 0x0A)
@@ -78,30 +78,29 @@ first-printed c true more none = sym none
 first-printed c false more none = refl
 
 -- After a control a line feed comes first in what is marked where it comes first in the stream.
-next-told : (hooked : Bool) (calls : List Call) (hidden : Bool) (style : Style) → AreLawfulFrom hooked calls
-    → (next_of (rest hidden false calls) == 0x0A) ≡ (next_of (map (λ next. next.0) (told_by style calls)) == 0x0A)
-next-told hooked [] hidden style lawful = refl
-next-told false (print c ∷ calls) hidden style lawful =
+next-told : (hooked : Bool) (calls : List Call) (style : Style) → AreLawfulFrom hooked calls
+    → (next_of (rest style false calls) == 0x0A) ≡ (next_of (map (λ next. next.0) (told_by style calls)) == 0x0A)
+next-told hooked [] style lawful = refl
+next-told false (print c ∷ calls) style lawful =
     ap (λ (l : List ℕ). next_of l == 0x0A)
-    (append_assoc (mark_between false hidden ++ c ∷ []) (marked_from (hiding hidden hidden) calls) (closing (hiding_from (hiding hidden hidden) calls)))
-    ∙ first-printed c hidden (marked_from (hiding hidden hidden) calls ++ closing (hiding_from (hiding hidden hidden) calls)) (no_feed c lawful.0)
-next-told false (execute b ∷ calls) hidden style lawful = refl
-next-told false (hook gs is ig f ∷ calls) hidden style lawful = next-told true calls hidden style lawful.1
-next-told false (osc_dispatch parts bell ∷ calls) hidden style lawful = next-told false calls hidden style lawful.1
-next-told false (csi_dispatch gs is ig f ∷ calls) hidden style lawful =
-    let call = csi_dispatch gs is ig f in
-    next-told false calls (hidden_after call hidden) (style_after call style) lawful.1
-next-told false (esc_dispatch is ig f ∷ calls) hidden style lawful = next-told false calls hidden style lawful.1
-next-told true (put b ∷ calls) hidden style lawful = next-told true calls hidden style lawful.1
-next-told true (unhook ∷ calls) hidden style lawful = next-told false calls hidden style lawful
-next-told false (put b ∷ calls) hidden style lawful = absurd lawful
-next-told false (unhook ∷ calls) hidden style lawful = absurd lawful
-next-told true (print c ∷ calls) hidden style lawful = absurd lawful
-next-told true (execute b ∷ calls) hidden style lawful = absurd lawful
-next-told true (hook gs is ig f ∷ calls) hidden style lawful = absurd lawful
-next-told true (osc_dispatch parts bell ∷ calls) hidden style lawful = absurd lawful
-next-told true (csi_dispatch gs is ig f ∷ calls) hidden style lawful = absurd lawful
-next-told true (esc_dispatch is ig f ∷ calls) hidden style lawful = absurd lawful
+    (append_assoc (mark_between false (is_unseen style) ++ c ∷ []) (marked_from (hiding style (is_unseen style)) calls) (closing (hiding_from (hiding style (is_unseen style)) calls)))
+    ∙ first-printed c (is_unseen style) (marked_from (hiding style (is_unseen style)) calls ++ closing (hiding_from (hiding style (is_unseen style)) calls)) (no_feed c lawful.0)
+next-told false (execute b ∷ calls) style lawful = refl
+next-told false (hook gs is ig f ∷ calls) style lawful = next-told true calls style lawful.1
+next-told false (osc_dispatch parts bell ∷ calls) style lawful = next-told false calls style lawful.1
+next-told false (csi_dispatch gs is ig f ∷ calls) style lawful =
+    next-told false calls (style_after (csi_dispatch gs is ig f) style) lawful.1
+next-told false (esc_dispatch is ig f ∷ calls) style lawful = next-told false calls style lawful.1
+next-told true (put b ∷ calls) style lawful = next-told true calls style lawful.1
+next-told true (unhook ∷ calls) style lawful = next-told false calls style lawful
+next-told false (put b ∷ calls) style lawful = absurd lawful
+next-told false (unhook ∷ calls) style lawful = absurd lawful
+next-told true (print c ∷ calls) style lawful = absurd lawful
+next-told true (execute b ∷ calls) style lawful = absurd lawful
+next-told true (hook gs is ig f ∷ calls) style lawful = absurd lawful
+next-told true (osc_dispatch parts bell ∷ calls) style lawful = absurd lawful
+next-told true (csi_dispatch gs is ig f ∷ calls) style lawful = absurd lawful
+next-told true (esc_dispatch is ig f ∷ calls) style lawful = absurd lawful
 
 -- the mark before a character, the character, and the rest
 parted : (mark cs more end : List ℕ) → ((mark ++ cs) ++ more) ++ end ≡ mark ++ (cs ++ (more ++ end))
@@ -111,8 +110,8 @@ scalar-no_mark : (c : ℕ) → IsScalar c → IsNoMark c
 scalar-no_mark c scalar = no-mark c (scalar-character c scalar)
 
 -- what a call that has no character leaves open stays so
-abbrev Told : (hidden on : Bool) → Style → List Call → Type 0
-Told hidden on style calls = told_from on (with_line_feeds (rest hidden on calls)) ≡ told_with_line_feeds (told_by style calls)
+abbrev Told : (on : Bool) → Style → List Call → Type 0
+Told on style calls = told_from on (with_line_feeds (rest style on calls)) ≡ told_with_line_feeds (told_by style calls)
 
 told-end : (on : Bool) → told_from on (with_line_feeds (mark_between on false)) ≡ []
 told-end true = refl
@@ -122,52 +121,50 @@ told-other : (on : Bool) (more end : List ℕ) → told_from on (with_line_feeds
 told-other true more end = refl
 told-other false more end = refl
 
--- Call by call, where the style is hidden that is selected if what comes is.
-told-from : (hooked : Bool) (calls : List Call) (hidden on : Bool) (style : Style) → style.hidden ≡ hidden → AreLawfulFrom hooked calls → Told hidden on style calls
-told-from hooked [] hidden on style same lawful = told-end on
-told-from false (print c ∷ calls) hidden on style same lawful =
-    let more = marked_from (hiding hidden hidden) calls in
-    let end = closing (hiding_from (hiding hidden hidden) calls) in
+-- Call by call.
+told-from : (hooked : Bool) (calls : List Call) (on : Bool) (style : Style) → AreLawfulFrom hooked calls → Told on style calls
+told-from hooked [] on style lawful = told-end on
+told-from false (print c ∷ calls) on style lawful =
+    let hidden = is_unseen style in
+    let more = marked_from (hiding style hidden) calls in
+    let end = closing (hiding_from (hiding style hidden) calls) in
     let after = told_by style calls in
     ap (λ (l : List ℕ). told_from on (with_line_feeds l)) (parted (mark_between on hidden) (c ∷ []) more end)
     ∙ told-mark on hidden (c ∷ (more ++ end))
     ∙ told-more c hidden (more ++ end) after (scalar-no_mark c (scalars-lawful false (print c ∷ calls) lawful).0)
     (ap (λ t. t && next_of (more ++ end) == 0x0A) (no_return c lawful.0) ∙ sym (ap (λ t. t && next_of (map (λ next. next.0) after) == 0x0A) (no_return c lawful.0)))
-    (told-from false calls hidden hidden style same lawful.1)
-    ∙ ap (λ (t : Bool). told_with_line_feeds ((c, t) ∷ after)) (sym same)
-told-from false (execute b ∷ calls) hidden on style same lawful =
-    let more = marked_from (hiding hidden false) calls in
-    let end = closing (hiding_from (hiding hidden false) calls) in
+    (told-from false calls hidden style lawful.1)
+told-from false (execute b ∷ calls) on style lawful =
+    let more = marked_from (hiding style false) calls in
+    let end = closing (hiding_from (hiding style false) calls) in
     let after = told_by style calls in
     ap (λ (l : List ℕ). told_from on (with_line_feeds l)) (parted (mark_between on false) (b ∷ []) more end)
     ∙ told-mark on false (b ∷ (more ++ end))
     ∙ told-more b false (more ++ end) after (scalar-no_mark b (scalars-lawful false (execute b ∷ calls) lawful).0)
-    (ap (λ t. b == 0x0D && t) (next-told false calls hidden style lawful.1))
-    (told-from false calls hidden false style same lawful.1)
-told-from false (hook gs is ig f ∷ calls) hidden on style same lawful =
-    told-other on (marked_from (hiding hidden on) calls) (closing (hiding_from (hiding hidden on) calls)) ∙ told-from true calls hidden on style same lawful.1
-told-from false (osc_dispatch parts bell ∷ calls) hidden on style same lawful =
-    told-other on (marked_from (hiding hidden on) calls) (closing (hiding_from (hiding hidden on) calls)) ∙ told-from false calls hidden on style same lawful.1
-told-from false (csi_dispatch gs is ig f ∷ calls) hidden on style same lawful =
-    let call = csi_dispatch gs is ig f in
-    let next = hidden_after call hidden in
-    told-other on (marked_from (hiding next on) calls) (closing (hiding_from (hiding next on) calls))
-    ∙ told-from false calls next on (style_after call style) (hidden-kept call style ∙ ap (hidden_after call) same) lawful.1
-told-from false (esc_dispatch is ig f ∷ calls) hidden on style same lawful =
-    told-other on (marked_from (hiding hidden on) calls) (closing (hiding_from (hiding hidden on) calls)) ∙ told-from false calls hidden on style same lawful.1
-told-from true (put b ∷ calls) hidden on style same lawful =
-    told-other on (marked_from (hiding hidden on) calls) (closing (hiding_from (hiding hidden on) calls)) ∙ told-from true calls hidden on style same lawful.1
-told-from true (unhook ∷ calls) hidden on style same lawful =
-    told-other on (marked_from (hiding hidden on) calls) (closing (hiding_from (hiding hidden on) calls)) ∙ told-from false calls hidden on style same lawful
-told-from false (put b ∷ calls) hidden on style same lawful = absurd lawful
-told-from false (unhook ∷ calls) hidden on style same lawful = absurd lawful
-told-from true (print c ∷ calls) hidden on style same lawful = absurd lawful
-told-from true (execute b ∷ calls) hidden on style same lawful = absurd lawful
-told-from true (hook gs is ig f ∷ calls) hidden on style same lawful = absurd lawful
-told-from true (osc_dispatch parts bell ∷ calls) hidden on style same lawful = absurd lawful
-told-from true (csi_dispatch gs is ig f ∷ calls) hidden on style same lawful = absurd lawful
-told-from true (esc_dispatch is ig f ∷ calls) hidden on style same lawful = absurd lawful
+    (ap (λ t. b == 0x0D && t) (next-told false calls style lawful.1))
+    (told-from false calls false style lawful.1)
+told-from false (hook gs is ig f ∷ calls) on style lawful =
+    told-other on (marked_from (hiding style on) calls) (closing (hiding_from (hiding style on) calls)) ∙ told-from true calls on style lawful.1
+told-from false (osc_dispatch parts bell ∷ calls) on style lawful =
+    told-other on (marked_from (hiding style on) calls) (closing (hiding_from (hiding style on) calls)) ∙ told-from false calls on style lawful.1
+told-from false (csi_dispatch gs is ig f ∷ calls) on style lawful =
+    let next = style_after (csi_dispatch gs is ig f) style in
+    told-other on (marked_from (hiding next on) calls) (closing (hiding_from (hiding next on) calls)) ∙ told-from false calls on next lawful.1
+told-from false (esc_dispatch is ig f ∷ calls) on style lawful =
+    told-other on (marked_from (hiding style on) calls) (closing (hiding_from (hiding style on) calls)) ∙ told-from false calls on style lawful.1
+told-from true (put b ∷ calls) on style lawful =
+    told-other on (marked_from (hiding style on) calls) (closing (hiding_from (hiding style on) calls)) ∙ told-from true calls on style lawful.1
+told-from true (unhook ∷ calls) on style lawful =
+    told-other on (marked_from (hiding style on) calls) (closing (hiding_from (hiding style on) calls)) ∙ told-from false calls on style lawful
+told-from false (put b ∷ calls) on style lawful = absurd lawful
+told-from false (unhook ∷ calls) on style lawful = absurd lawful
+told-from true (print c ∷ calls) on style lawful = absurd lawful
+told-from true (execute b ∷ calls) on style lawful = absurd lawful
+told-from true (hook gs is ig f ∷ calls) on style lawful = absurd lawful
+told-from true (osc_dispatch parts bell ∷ calls) on style lawful = absurd lawful
+told-from true (csi_dispatch gs is ig f ∷ calls) on style lawful = absurd lawful
+told-from true (esc_dispatch is ig f ∷ calls) on style lawful = absurd lawful
 
 -- So safe text tells of each character what the stream says of it.
 pub told-marked : (calls : List Call) → AreLawful calls → told (read_back (chars (safe_marked calls))) ≡ told_with_line_feeds (told_by plain calls)
-told-marked calls lawful = ap told (read-marked calls lawful) ∙ told-from false calls false false plain refl lawful
+told-marked calls lawful = ap told (read-marked calls lawful) ∙ told-from false calls false plain lawful

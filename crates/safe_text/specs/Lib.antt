@@ -3,6 +3,7 @@ pub mod Classes
 pub mod Safe
 pub mod Reading
 pub mod Decided
+pub mod Unseen
 pub mod Marks
 pub mod Held
 pub mod Plain

@@ -4,6 +4,7 @@ use Rattle.std.specs.Prelude.{◌≡◌, ℕ, Bool, List, ◌++◌}
 use Rattle.anstyle_parse.specs.declared.io.devices.Sink.{Ghosts as SinkOf}
 use Rattle.anstyle_parse.specs.declared.io.output.Output.{Output}
 use Rattle.anstyle_parse.specs.Stream.Call.{Call}
+use Rattle.ansi_style.specs.declared.style.Style.{Style}
 use Rattle.safe_text.specs.declared.performer.SafeWriter.{SafeWriter}
 use Rattle.safe_text.specs.declared.marking.MarkingWriter.{MarkingWriter}
 use Rattle.safe_text.specs.Safe.{safe_from}
@@ -11,18 +12,18 @@ use Rattle.safe_text.specs.Decided.{waiting, last_from}
 use Rattle.safe_text.specs.Marks.{Hiding, nothing_hidden, marked_from, hiding_from, closing}
 use Rattle.safe_text.specs.Writer.{output_of, before_in, held_in, text_by, IsNew, Takes}
 
--- the writer of safe text that it writes by; whether the text that comes next is hidden; whether hidden text is open
+-- the writer of safe text that it writes by; the style of the text that comes next; whether hidden text is open
 abbrev pub writer_in : {W : Type 0} → MarkingWriter W → SafeWriter W
 writer_in performer = performer.writer
 
-abbrev pub hidden_in : {W : Type 0} → MarkingWriter W → Bool
-hidden_in performer = performer.is_hidden
+abbrev pub style_in : {W : Type 0} → MarkingWriter W → Style
+style_in performer = performer.style
 
 abbrev pub open_in : {W : Type 0} → MarkingWriter W → Bool
 open_in performer = performer.is_open
 
 abbrev pub hiding_in : {W : Type 0} → MarkingWriter W → Hiding
-hiding_in performer = record { is_hidden = hidden_in performer; is_open = open_in performer }
+hiding_in performer = record { style = style_in performer; is_open = open_in performer }
 
 abbrev pub output_in : {W : Type 0} → MarkingWriter W → Output W
 output_in performer = output_of (writer_in performer)

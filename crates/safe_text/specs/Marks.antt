@@ -1,37 +1,31 @@
--- Text that Select Graphic Rendition hides, and the marks where it begins and ends.
---
--- Source: ECMA-48 (5th edition), 8.3.117 SGR: 8, concealed characters, until 28, revealed characters, or 0.
-use Rattle.std.specs.List.{AllByRecursion}
+-- The marks where text begins and ends that is drawn and not seen (specs/Unseen.antt).
 use Rattle.std.specs.Str.{encode_utf8_all}
-use Rattle.std.specs.Prelude.{◌≡◌, ℕ, Bool, true, false, ◌||◌, ◌==◌, List, [], ◌∷◌, ◌++◌, if◌then◌else◌}
+use Rattle.std.specs.Prelude.{◌≡◌, ℕ, Bool, true, false, ◌||◌, ◌==◌, ⊤, List, [], ◌∷◌, ◌++◌, if◌then◌else◌}
 use Rattle.anstyle_parse.specs.Stream.Call.{Call, print, execute}
 use Rattle.ansi_style.specs.declared.style.Style.{Style}
 use Rattle.ansi_style.specs.Style.{plain}
 use Rattle.ansi_style.specs.Rendition.{style_after}
+use Rattle.safe_text.specs.Unseen.{is_unseen}
 use Rattle.safe_text.specs.Safe.{hides, shows, characters_of, safe_from}
 use Rattle.safe_text.specs.Decided.{decided_from, waiting, last_from}
 
--- whether text is hidden after a call, where it was or was not: by the table of Select Graphic Rendition
-abbrev pub hidden_after : Call → Bool → Bool
-hidden_after call hidden = (style_after call (record plain { hidden = hidden })).hidden
-
--- Whether the text that comes next is hidden; and whether a run of hidden text is open, whose end is not marked yet.
+-- The style of the text that comes next; and whether a run of hidden text is open, whose end is not marked yet.
 pub record Hiding : Type 0 where
-  pub is_hidden : Bool
+  pub style : Style
   pub is_open : Bool
 
 -- at the start of a stream
 abbrev pub nothing_hidden : Hiding
-nothing_hidden = record { is_hidden = false; is_open = false }
+nothing_hidden = record { style = plain; is_open = false }
 
--- A character that is printed is of such a run where it is hidden. A control is of none: so a run ends in its line.
+-- A character that is printed is of such a run where it is not seen. A control is of none: so a run ends in its line.
 abbrev pub open_after : Call → Hiding → Bool
-open_after (print c) at = at.is_hidden
+open_after (print c) at = is_unseen at.style
 open_after (execute byte) at = false
 open_after call at = at.is_open
 
 abbrev pub hiding_after : Call → Hiding → Hiding
-hiding_after call at = record { is_hidden = hidden_after call at.is_hidden; is_open = open_after call at }
+hiding_after call at = record { style = style_after call at.style; is_open = open_after call at }
 
 -- the mark between what is hidden or not and what comes then
 abbrev pub mark_of : (hidden : Bool) → ℕ
@@ -82,14 +76,20 @@ abbrev pub without_marks : List ℕ → List ℕ
 without_marks [] = []
 without_marks (c ∷ cs) = if is_mark c then without_marks cs else c ∷ without_marks cs
 
--- What a stream itself says of its characters, whatever the marks: one that is printed is hidden where the style is that
--- is selected there, and a control is not.
+-- What a stream itself says of its characters, whatever the marks: one that is printed is hidden where the style that is
+-- selected there is not seen, and a control is not.
 abbrev pub told_by : Style → List Call → List (ℕ × Bool)
 told_by style [] = []
-told_by style (print c ∷ calls) = (c, style.hidden) ∷ told_by style calls
+told_by style (print c ∷ calls) = (c, is_unseen style) ∷ told_by style calls
 told_by style (execute byte ∷ calls) = (byte, false) ∷ told_by style calls
 told_by style (call ∷ calls) = told_by (style_after call style) calls
 
+-- the text of each style is seen that calls select, after this one
+abbrev pub IsSeenFrom : Style → List Call → Type 0
+IsSeenFrom style [] = ⊤
+IsSeenFrom style (call ∷ calls) =
+    (is_unseen (style_after call style) ≡ false) × IsSeenFrom (style_after call style) calls
+
 -- no call begins to hide text
 abbrev pub NeverHides : List Call → Type 0
-NeverHides calls = AllByRecursion (λ call. hidden_after call false ≡ false) calls
+NeverHides calls = IsSeenFrom plain calls

@@ -9,12 +9,10 @@ ghost use Rattle.safe_text.specs.Classes.{is_of_safe_text};
 ghost use Rattle.safe_text.specs.Safe.{characters, safe, IsSafe};
 ghost use Rattle.safe_text.specs.Reading.{read_back, with_line_feeds, told, told_with_line_feeds};
 ghost use Rattle.safe_text.specs.Decided.{decided, undecided};
-ghost use Rattle.safe_text.specs.Marks.{hidden_after, marked, safe_marked, decided_marked, undecided_marked, without_marks, told_by, NeverHides};
+ghost use Rattle.safe_text.specs.Marks.{marked, safe_marked, decided_marked, undecided_marked, without_marks, told_by, NeverHides};
 ghost use Rattle.ansi_style.specs.Style.{plain};
-ghost use Rattle.ansi_style.specs.Rendition.{style_after};
 
 use ansi_strip::laws::{clean_text, stripped_twice};
-use ansi_style::Style;
 use anstyle_parse::laws::{bounds, calls_are_lawful, calls_of_bytes};
 
 /// What is decided of calls, and then what waits at their end, is their safe text: also with marks.
@@ -65,16 +63,13 @@ pub fn read_back()
 /// Hidden text stands between its marks, and nothing else does. Without the marks, what is marked are the characters of
 /// the calls; and where no call hides text, there are no marks.
 pub fn marks()
-    // Read back, each character stands between the marks if it is printed where a hidden style is selected, and only
-    // then: so a text that is not marked, all that is, and a mark that comes late are not safe text.
+    // Read back, each character stands between the marks if it is printed where the style that is selected is not seen,
+    // and only then: so a text that is not marked, all that is, and a mark that comes late are not safe text.
     ensures hidden { (bytes : List ℕ) (calls : List Call) → AreCalls bytes calls
         → told (read_back (chars (safe_marked calls))) ≡ told_with_line_feeds (told_by plain calls) }
     ensures characters { (bytes : List ℕ) (calls : List Call) → AreCalls bytes calls
         → without_marks (marked calls) ≡ characters calls }
     ensures none { (calls : List Call) → NeverHides calls → marked calls ≡ characters calls }
-
-    // Text is hidden where the style is that the stream selects.
-    ensures style { (call : Call) (style : Style) → (style_after call style).hidden ≡ hidden_after call style.hidden }
 {
     calls_are_lawful();
 }

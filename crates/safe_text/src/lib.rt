@@ -18,12 +18,14 @@ pub mod laws;
 mod marking;
 mod performer;
 mod plain;
+mod unseen;
 
 use anstyle_parse::io::{Fault, Sink, Source, write_calls};
 pub use classes::is_shown;
 pub use held::Held;
 pub use marking::{MarkedStanding, MarkingWriter};
 pub use performer::{SafeWriter, Standing};
+pub use unseen::is_unseen;
 
 /// Writes the safe text of all bytes that the reader gives: of their calls, each character that is printed and each
 /// control that is executed, in UTF-8. Escape and control sequences, titles, links and device control strings leave
@@ -35,7 +37,8 @@ pub use performer::{SafeWriter, Standing};
 ///   (`specs/Classes.antt`).
 /// - Each other one is written visibly, as `less` does: `<U+`, its number in base 16, `>`. So is the `<` of a
 ///   `<U+` that stands in the stream.
-/// - Between `<U+hidden>` and `<U+shown>` stands text that Select Graphic Rendition hides (`specs/Marks.antt`).
+/// - Between `<U+hidden>` and `<U+shown>` stands text that is drawn and not seen ([`is_unseen`]): what Select Graphic
+///   Rendition hides, and what has the colour of its ground.
 ///
 /// The bytes are read in pieces of at most 4096; no memory is taken. The writer is always
 /// handed back. The answer is

@@ -1,10 +1,12 @@
 //! The performer that writes safe text with marks where hidden text begins and ends.
-ghost use Rattle.std.specs.Prelude.{◌≡◌, ◌∷◌, [], false, map, chars};
+ghost use Rattle.std.specs.Prelude.{◌≡◌, ◌∷◌, [], false, ◌||◌, map, chars};
 ghost use Rattle.anstyle_parse.specs.Stream.Call.{print, execute};
 ghost use Rattle.anstyle_parse.specs.Stream.Texts.{is_layout, layout_call};
-ghost use Rattle.safe_text.specs.Marks.{mark_between, hidden_after, decided_marked, undecided_marked};
+ghost use Rattle.safe_text.specs.Marks.{mark_between, decided_marked, undecided_marked};
+ghost use Rattle.safe_text.specs.Unseen.{is_unseen};
 
 use crate::performer::{SafeWriter, Standing};
+use crate::unseen::is_unseen;
 use ansi_style::Style;
 use anstyle_parse::io::{CallWriter, Output, Sink, WritingPerformer};
 use anstyle_parse::{Params, Perform, PerformText};
@@ -13,22 +15,22 @@ use anstyle_parse::{Params, Perform, PerformText};
 #[derive(Debug, Clone, Copy)]
 pub struct MarkedStanding {
     pub text: Standing,
-    /// The text that comes next is hidden.
-    pub is_hidden: bool,
+    /// That of the text that comes next.
+    pub style: Style,
     /// Hidden text is written last: its end is not marked yet.
     pub is_open: bool,
 }
 
-/// Writes what a [`SafeWriter`] writes, and between that `<U+hidden>` where text begins that Select Graphic Rendition
-/// hides (8), and `<U+shown>` where it ends: before text that is not hidden, before a control, and at the end.
+/// Writes what a [`SafeWriter`] writes, and between that `<U+hidden>` where text begins that is drawn and not seen
+/// ([`is_unseen`]), and `<U+shown>` where it ends: before text that is seen, before a control, and at the end.
 ///
 /// [`write_safe`](crate::write_safe) drives it from a reader to a writer. No memory is taken. A text in pieces is
 /// suspended and resumed where it stands.
 #[derive(Drop)]
 pub struct MarkingWriter<W> {
     writer: SafeWriter<W>,
-    /// The text that comes next is hidden.
-    is_hidden: bool,
+    /// That of the text that comes next.
+    style: Style,
     /// Hidden text is written last: its end is not marked yet.
     is_open: bool,
 }
@@ -44,7 +46,7 @@ fn is_layout(c: char) -> bool
 impl<W: Sink> MarkingWriter<W> {
     ghost use Rattle.safe_text.specs.Held.{held_characters};
     ghost use Rattle.safe_text.specs.Writer.{before_in, held_in, Takes};
-    ghost use Rattle.safe_text.specs.MarkingWriter.{writer_in, output_in, hidden_in, open_in, TakesMarked};
+    ghost use Rattle.safe_text.specs.MarkingWriter.{writer_in, output_in, style_in, open_in, TakesMarked};
 
     /// One that writes to this output, and goes on where the safe text of a stream stands.
     #[inline]
@@ -52,14 +54,14 @@ impl<W: Sink> MarkingWriter<W> {
         ensures output { output_in result ≡ output }
         ensures before { before_in (writer_in result) ≡ standing.text.before }
         ensures held { held_in (writer_in result) ≡ held_characters standing.text.held }
-        ensures is_hidden { hidden_in result ≡ standing.is_hidden }
+        ensures style { style_in result ≡ standing.style }
         ensures is_open { open_in result ≡ standing.is_open }
     {
-        let is_hidden = standing.is_hidden;
+        let style = standing.style;
         let is_open = standing.is_open;
         MarkingWriter {
             writer: SafeWriter::resume(standing.text, output),
-            is_hidden,
+            style,
             is_open,
         }
     }
@@ -69,14 +71,14 @@ impl<W: Sink> MarkingWriter<W> {
     pub fn standing(&self) -> MarkedStanding
         ensures before { result.text.before ≡ before_in (writer_in self.now) }
         ensures held { held_characters result.text.held ≡ held_in (writer_in self.now) }
-        ensures is_hidden { result.is_hidden ≡ hidden_in self.now }
+        ensures style { result.style ≡ style_in self.now }
         ensures is_open { result.is_open ≡ open_in self.now }
     {
-        let is_hidden = self.is_hidden;
+        let style = self.style;
         let is_open = self.is_open;
         MarkedStanding {
             text: self.writer.standing(),
-            is_hidden,
+            style,
             is_open,
         }
     }
@@ -95,7 +97,7 @@ impl<W: Sink> MarkingWriter<W> {
         ensures taken { Takes W.Sink (writer_in self.old) (mark_between (open_in self.old) hidden)
             (writer_in self.new) }
         ensures on { open_in self.new ≡ hidden }
-        ensures hidden { hidden_in self.new ≡ hidden_in self.old }
+        ensures style { style_in self.new ≡ style_in self.old }
     {
         if hidden != self.is_open {
             self.writer.mark(hidden);
@@ -103,11 +105,20 @@ impl<W: Sink> MarkingWriter<W> {
         }
     }
 
+    /// Whether marks come with a text: it is hidden, or hidden text is open before it.
+    #[inline(always)]
+    fn has_marks(&self) -> bool
+        ensures { result ≡ (open_in self.now || is_unseen (style_in self.now)) }
+    {
+        self.is_open || is_unseen(&self.style)
+    }
+
     /// Takes a character that is printed.
     fn take_printed(&mut self, c: char)
         ensures { TakesMarked W.Sink self.old (print c ∷ []) self.new }
     {
-        self.mark(self.is_hidden);
+        let hidden = is_unseen(&self.style);
+        self.mark(hidden);
         self.writer.take(c);
     }
 
@@ -165,12 +176,10 @@ impl<W: Sink> Perform for MarkingWriter<W> {
 
     fn osc_dispatch(&mut self, _: &[&[u8]], _: bool) {}
 
-    /// Of Select Graphic Rendition it keeps whether text is hidden.
+    /// The style goes with the stream.
     fn csi_dispatch(&mut self, params: &Params, intermediates: &[u8], ignore: bool, action: u8) {
-        let mut style = Style::default();
-        style.hidden = self.is_hidden;
-        style.csi_dispatch(params, intermediates, ignore, action);
-        self.is_hidden = style.hidden;
+        self.style
+            .csi_dispatch(params, intermediates, ignore, action);
     }
 
     fn esc_dispatch(&mut self, _: &[u8], _: bool, _: u8) {}
@@ -186,14 +195,15 @@ impl<W: Sink> PerformText for MarkingWriter<W> {
     #[inline]
     fn print_text(&mut self, text: &str) {
         if !text.is_empty() {
-            self.mark(self.is_hidden);
+            let hidden = is_unseen(&self.style);
+            self.mark(hidden);
             self.writer.print_text(text);
         }
     }
 
     #[inline]
     fn print_with_layout(&mut self, text: &str) {
-        if self.is_hidden || self.is_open {
+        if self.has_marks() {
             self.take_each(text);
         } else {
             self.writer.print_with_layout(text);
@@ -249,7 +259,7 @@ impl<W: Sink> CallWriter<W> for MarkingWriter<W> {
     {
         MarkingWriter {
             writer: SafeWriter::over(output),
-            is_hidden: false,
+            style: Style::default(),
             is_open: false,
         }
     }

@@ -8,6 +8,7 @@ use Rattle.ansi_screen.specs.declared.cell.Cell.{Cell}
 use Rattle.ansi_screen.specs.After.{State, new_state, after_all}
 use Rattle.ansi_screen.specs.Leaving.{all_left}
 use Rattle.ansi_screen.specs.Text.{used, is_unprinted, goes_on}
+use Rattle.safe_text.specs.Unseen.{is_unseen}
 use Rattle.safe_text.specs.Marks.{mark_between, without_marks}
 use Rattle.safe_text.proofs.MarkedLemmas.{between-items, without-append, without-between, without-scalars}
 use Rattle.safe_text.proofs.WholeLemmas.{IsItem, all-append, all-items}
@@ -32,8 +33,8 @@ module _ (P : ℕ → Type 0) (between : (on next : Bool) → AllByRecursion P (
   cells-all on (cell ∷ cells) are =
       let own : List ℕ = cell_characters cell in
       let others : List ℕ = flat_map cell_characters cells in
-      all-append P (mark_between on cell.style.hidden) (own ++ cells_marked cell.style.hidden cells) (between on cell.style.hidden)
-      (all-append P own (cells_marked cell.style.hidden cells) (front own others are) (cells-all cell.style.hidden cells (back own others are)))
+      all-append P (mark_between on (is_unseen cell.style)) (own ++ cells_marked (is_unseen cell.style) cells) (between on (is_unseen cell.style))
+      (all-append P own (cells_marked (is_unseen cell.style) cells) (front own others are) (cells-all (is_unseen cell.style) cells (back own others are)))
 
   row-all : (row : List Cell) → AllByRecursion P (row_characters row) → AllByRecursion P (row_marked row)
   row-all row are =
@@ -68,7 +69,7 @@ cells-without : (on : Bool) (cells : List Cell) → without_marks (cells_marked 
 cells-without on [] = without-between on false
 cells-without on (cell ∷ cells) =
     let own : List ℕ = cell_characters cell in
-    let hidden : Bool = cell.style.hidden in
+    let hidden : Bool = is_unseen cell.style in
     without-append (mark_between on hidden) (own ++ cells_marked hidden cells)
     ∙ ap (λ l. l ++ without_marks (own ++ cells_marked hidden cells)) (without-between on hidden)
     ∙ without-append own (cells_marked hidden cells)

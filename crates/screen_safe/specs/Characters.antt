@@ -6,6 +6,7 @@ use Rattle.ansi_screen.specs.declared.cell.Marks.{Marks}
 use Rattle.ansi_screen.specs.declared.cell.Marks.TheVariants.{Unmarked, One, Two}
 use Rattle.ansi_screen.specs.Cells.{is_right}
 use Rattle.ansi_screen.specs.Text.{is_unprinted, goes_on, used}
+use Rattle.safe_text.specs.Unseen.{is_unseen}
 use Rattle.safe_text.specs.Marks.{mark_between}
 
 -- the characters of no column that came after a cell's own
@@ -31,7 +32,7 @@ rows_characters rows = flat_map row_characters rows
 abbrev pub cells_marked : (on : Bool) → List Cell → List ℕ
 cells_marked on [] = mark_between on false
 cells_marked on (cell ∷ cells) =
-    mark_between on cell.style.hidden ++ (cell_characters cell ++ cells_marked cell.style.hidden cells)
+    mark_between on (is_unseen cell.style) ++ (cell_characters cell ++ cells_marked (is_unseen cell.style) cells)
 
 abbrev pub row_marked : List Cell → List ℕ
 row_marked row =

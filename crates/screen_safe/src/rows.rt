@@ -7,7 +7,7 @@ ghost use Rattle.screen_safe.specs.Characters.{marks_of, cell_characters, cells_
 
 use ansi_screen::{Cell, LeftOut, Marks, TakeCommand, TakeRow, goes_on, used_of_written};
 use anstyle_parse::io::{CallWriter, Output, Sink, WritingPerformer};
-use safe_text::SafeWriter;
+use safe_text::{SafeWriter, is_unseen};
 use screen_text::WriteRows;
 
 /// Hands marks on.
@@ -51,8 +51,9 @@ fn take_cells<W: Sink>(writer: &mut SafeWriter<W>, cells: &[Cell])
     let mut is_hidden = false;
     let mut rest = cells;
     'rest: while let Some((first, further)) = rest.split_first() {
-        take_mark(writer, is_hidden, first.style.hidden);
-        is_hidden = first.style.hidden;
+        let hidden = is_unseen(&first.style);
+        take_mark(writer, is_hidden, hidden);
+        is_hidden = hidden;
         take_cell(writer, *first);
         rest = further;
     }

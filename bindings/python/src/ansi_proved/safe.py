@@ -15,7 +15,7 @@ PLAIN = re.compile("[\t\n\x20-;=-~]*")  # characters that are left wherever they
 class State(ctypes.Structure):
     """Where a stream and its safe text stand between two pieces. A new one begins a stream."""
 
-    _fields_ = [("length", ctypes.c_size_t), ("others", ctypes.c_ubyte * 1056)]
+    _fields_ = [("length", ctypes.c_size_t), ("others", ctypes.c_ubyte * 1072)]
 
 
 _feed = function("ansi_safe_feed", *FEED)
@@ -40,7 +40,7 @@ def safe(text):
     """The safe text of terminal output, which hides nothing: of a str a str, of bytes, a bytearray or a memoryview bytes.
 
     What shows nothing, turns the order of text round or is a control is written visibly, as `<U+202E>`, and text that a stream
-    hides (SGR 8) stands between `<U+hidden>` and `<U+shown>`. It has no carriage return before a line feed. It is that of
+    hides (SGR 8), or that has the colour of its ground in xterm's palette, stands between `<U+hidden>` and `<U+shown>`. It has no carriage return before a line feed. It is that of
     `strip(text, safe=True)`.
     """
     short = SHORT(text)

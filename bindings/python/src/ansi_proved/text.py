@@ -128,8 +128,8 @@ def strip(text, *, safe=False, lf=False):
     It drives no terminal: DEL and U+0080 to U+009F, which some terminals take for controls, are left out too. No other
     byte vanishes: what is broken, and what belongs to no character, is U+FFFD, as is each surrogate of a str. Where it is
     to be safe, it hides nothing, as that of `ansi2text --safe`: what shows nothing, turns the order of text round or is a
-    control is written visibly, as `<U+202E>`, and text that a stream hides (SGR 8) stands between `<U+hidden>` and
-    `<U+shown>`. With `lf` each carriage return right before a line feed goes, as a recording by script(1) has it at the end
+    control is written visibly, as `<U+202E>`, and text that a stream hides (SGR 8), or that has the colour of its ground in
+    xterm's palette, stands between `<U+hidden>` and `<U+shown>`. With `lf` each carriage return right before a line feed goes, as a recording by script(1) has it at the end
     of each line; where it is to be safe it goes in any case.
     """
     if safe:

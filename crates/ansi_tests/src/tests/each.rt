@@ -17,6 +17,7 @@ use std::io::{Error, ErrorKind};
 use std::process::{Abort, ExitCode};
 use std::test::Fail;
 use test_streams::{Paper, TROUBLES, Tape};
+use without_hidden::{LeavingOut, WithoutHidden};
 
 /// Each stream is stripped.
 struct Stripping;
@@ -47,6 +48,7 @@ impl<W: Sink> Begin<Stripper<W>, W> for Stripping {
 }
 
 /// The same, once three bytes of it have come.
+#[derive(Clone, Copy)]
 struct Waiting;
 
 impl<W: Sink> Begin<Stripper<W>, W> for Waiting {
@@ -132,6 +134,24 @@ fn assert_written<B: Begin<Stripper<FromWrite<Vec<u8>>>, FromWrite<Vec<u8>>>>(
 /// A reader made so many reads.
 fn assert_reads(rt: &impl Abort, reader: FromRead<Tape<'_>>, reads: u64) {
     assert_count(rt, reader.into_inner().reads, reads);
+}
+
+/// Hidden text of each is left out, also where it is not shown again at the end of the one before.
+#[test]
+fn hidden_text_of_each(rt: HostRuntime) -> Result<(), Fail> {
+    let mut readers = [at_once(b"a\x1b[8mb"), by_byte(b"c\x1b[8md\x1b[28me")];
+    let begin = LeavingOut { begin: Waiting };
+    let writer = FromWrite::new(Vec::new(rt.alloc()));
+    let (writer, answer) = write_each::<WithoutHidden<Stripper<FromWrite<Vec<u8>>>>, _, _, _>(
+        &begin,
+        b"<",
+        &mut readers,
+        writer,
+        b">",
+    );
+    assert_bytes(&rt, writer.into_inner().as_slice(), b"<ace>");
+    assert_eq!(rt; answer, Ok(()));
+    Ok(())
 }
 
 #[test]

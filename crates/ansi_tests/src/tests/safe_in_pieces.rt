@@ -1,11 +1,12 @@
 //! Safe text in pieces, and every public item that it stands on by its name.
 use super::in_pieces::assert_text;
 use super::{assert_answer, assert_bytes};
+use ansi_style::Style;
 use anstyle_parse::Perform;
 use anstyle_parse::canon::{Fault, Output, Sink};
 use safe_pieces::laws::{clones, safe_joined, states};
 use safe_pieces::{END_ROOM, LEAST_ROOM, SafeState};
-use safe_text::{Held, MarkedStanding, MarkingWriter, SafeWriter, Standing};
+use safe_text::{Held, MarkedStanding, MarkingWriter, SafeWriter, Standing, is_unseen};
 use std::process::Abort;
 use std::test::Fail;
 use stream_state::{LentBytes, put_at_start};
@@ -104,19 +105,22 @@ fn names_of_pieces(rt: HostRuntime) {
 #[test]
 fn names_of_marked_pieces(rt: HostRuntime) {
     let mut memory = [0; 16];
+    let mut style = Style::default();
+    style.hidden = true;
+    assert!(rt; is_unseen(&style));
     let standing = MarkedStanding {
         text: Standing {
             before: 'a',
             held: Held::LessU,
         },
-        is_hidden: true,
+        style,
         is_open: false,
     };
     let output = Output::new(LentBytes::new(16, &mut memory));
     let mut writer = MarkingWriter::resume(standing, output);
     writer.print('b');
     let stands = writer.standing();
-    assert!(rt; stands.text.before == 'b' && stands.is_hidden && stands.is_open);
+    assert!(rt; stands.text.before == 'b' && stands.style == style && stands.is_open);
     let (held, answer) = writer.suspend().finish();
     assert_held(&rt, &held, answer, b"<U<U+hidden>b");
 }

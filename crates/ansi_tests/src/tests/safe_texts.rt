@@ -1,5 +1,7 @@
 //! Rows that were worked by hand; and reads and writes that fail.
 use super::{assert_answer, assert_bytes};
+use ansi_strip::Stripper;
+use ansi_style::{Color, Hue};
 use anstyle_parse::PerformText;
 use anstyle_parse::canon::{CallWriter, Fault, FromRead, FromWrite, Output, WritingPerformer};
 use anstyle_parse::io::perform_texts_to_end;
@@ -9,9 +11,11 @@ use std::alloc::Global;
 use std::process::Abort;
 use std::test::Fail;
 use test_streams::Tape;
+use without_hidden::WithoutHidden;
+use xterm_palette::{bright, named, number_of};
 
 /// What is read, and its safe text. (Many more are rows of tests/lib/safe_rows.py.)
-const ROWS: [(&str, &str); 15] = [
+const ROWS: [(&str, &str); 17] = [
     ("a<b\t\n", "a<b\t\n"),
     ("a\r\nb\rc\x07", "a\nb<U+000D>c<U+0007>"),
     ("a\u{202E}b\u{E0041}", "a<U+202E>b<U+E0041>"),
@@ -35,6 +39,12 @@ const ROWS: [(&str, &str); 15] = [
     ("a\x1B[8mb", "a<U+hidden>b<U+shown>"),
     // where no text comes there is no mark
     ("a\x1B[8m\n\x1B[28mb\x1B[8m", "a\nb"),
+    // so do colours of text and ground that are one, and not the terminal's own
+    (
+        "\x1B[30;40ma\x1B[48;2;0;205;0;32mb\x1B[39mc",
+        "<U+hidden>ab<U+shown>c",
+    ),
+    ("\x1B[39;49ma\x1B[31mb\x1B[101mc", "abc"),
     // a colour of which 8 is a part hides nothing
     ("\x1B[38;5;8ma\x1B[38:5:8mb", "ab"),
     // nothing of the stream looks as a mark, nor does what stands on both sides of one
@@ -120,6 +130,34 @@ fn assert_marking_writer(rt: &(impl Abort + AllocGlobal)) {
     let (writer, answer) = writer.into_output().finish();
     assert_text(rt, writer, b"<U+hidden>a<U+shown>");
     assert_answer(rt, answer, Ok(()));
+}
+
+/// What of these bytes is not hidden is this, as layout alone, as texts and as characters.
+fn assert_without_hidden(rt: &(impl Abort + AllocGlobal), bytes: &[u8], text: &[u8]) {
+    let mut performer = WithoutHidden::new(Stripper::over(output(rt.alloc())));
+    assert_performs(rt, bytes, &mut performer);
+    let _ = performer.performer();
+    let (writer, answer) = performer.into_output().finish();
+    assert_text(rt, writer, text);
+    assert_answer(rt, answer, Ok(()));
+}
+
+#[test]
+fn without_what_is_hidden(rt: HostRuntime) -> Result<(), Fail> {
+    assert_without_hidden(&rt, b"a\x1B[8mb\n\tc\x1B[28md\x1B[8me\x1B[mf", b"a\n\tdf");
+    assert_without_hidden(&rt, b"\x1B[30;40ma\x1B[8;28mb", b"ab");
+    Ok(())
+}
+
+#[test]
+fn colours_by_number(rt: HostRuntime) -> Result<(), Fail> {
+    assert!(rt; named(Hue::Blue) == 0x0000EE && bright(Hue::Blue) == 0x5C5CFF);
+    assert!(rt; number_of(Color::Indexed(12)) == number_of(Color::Bright(Hue::Blue)));
+    assert!(rt; number_of(Color::Indexed(67)) == Some(0x5F87AF));
+    assert!(rt; number_of(Color::Indexed(255)) == Some(0xEEEEEE));
+    assert!(rt; number_of(Color::Direct(1, 2, 3)) == Some(0x010203));
+    assert!(rt; number_of(Color::Default).is_none());
+    Ok(())
 }
 
 #[test]

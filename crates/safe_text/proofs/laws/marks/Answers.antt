@@ -1,6 +1,5 @@
 -- A mark is no character, and without one that hides text there is none.
 use Rattle.safe_text.proofs.MarkedLemmas.{without-all, never-marks}
-use Rattle.safe_text.proofs.HiddenLemmas.{hidden-kept}
 use Rattle.safe_text.proofs.ToldLemmas.{told-marked}
 use Rattle.safe_text.proofs.laws.marks.Goals as goal
 
@@ -12,6 +11,3 @@ returns-clause-characters c = λ bytes calls are. without-all calls (c.calls_are
 
 pub returns-clause-none : goal.returns-clause-none
 returns-clause-none c = λ calls never. never-marks calls never
-
-pub returns-clause-style : goal.returns-clause-style
-returns-clause-style c = hidden-kept

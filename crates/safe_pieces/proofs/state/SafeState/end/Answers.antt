@@ -34,7 +34,7 @@ returns-clause-ended c =
     let before : writer_before (safe_writer writer) ≡ before_in state = c.resume-writer.ensures.before ∙ c.standing.ensures.before in
     let held : writer_held (safe_writer writer) ≡ held_in state = c.resume-writer.ensures.held ∙ c.standing.ensures.held in
     let hiding : writer_hiding writer ≡ hiding_in state =
-    hiding-same _ _ _ _ (c.resume-writer.ensures.is_hidden ∙ c.standing.ensures.is_hidden) (c.resume-writer.ensures.is_open ∙ c.standing.ensures.is_open) in
+    hiding-same _ _ _ _ (c.resume-writer.ensures.style ∙ c.standing.ensures.style) (c.resume-writer.ensures.is_open ∙ c.standing.ensures.is_open) in
     let text = encode_utf8_all (safe_from (writer_before (safe_writer writer)) (writer_held (safe_writer writer) ++ rest (writer_hiding writer))) in
     let is : text ≡ encode_utf8_all (safe_from (before_in state) all) =
     ap₂ (λ b (l : List ℕ). encode_utf8_all (safe_from b l)) before (ap₂ (λ (h : List ℕ) at. h ++ rest at) held hiding) in

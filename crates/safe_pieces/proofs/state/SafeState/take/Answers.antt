@@ -56,7 +56,7 @@ returns c =
     let before = c.resume-writer.ensures.before ∙ c.standing.ensures.before in
     let held = c.resume-writer.ensures.held ∙ c.standing.ensures.held in
     let hiding : writer_hiding writer ≡ hiding_in c.args.self.now =
-    hiding-same _ _ _ _ (c.resume-writer.ensures.is_hidden ∙ c.standing.ensures.is_hidden) (c.resume-writer.ensures.is_open ∙ c.standing.ensures.is_open) in
+    hiding-same _ _ _ _ (c.resume-writer.ensures.style ∙ c.standing.ensures.style) (c.resume-writer.ensures.is_open ∙ c.standing.ensures.is_open) in
     let made = ap₂ (λ (h : List ℕ) at. h ++ marked_from at calls) held hiding in
     let few = (quoted-log log.0 piece calls (goes_on log.0 log.1)).few_calls in
     let written = c.bytes.ensures ∙ text-held c.new.result writer c.advance_log.new.performer calls c.finish-buffer.result.0 c.finish-buffer.result.1
@@ -74,7 +74,7 @@ returns c =
           (c.save.ensures (as_read (before ++ piece)) (c.advance_log.ensures.stands before (c.resume_in.ensures (as_read before) c.new-parser.ensures.stands is)));
       last = c.save-2.ensures.before ∙ c.standing-2.ensures.before ∙ taken.taken.before ∙ ap₂ last_from before made;
       held = c.save-2.ensures.held ∙ c.standing-2.ensures.held ∙ taken.taken.held ∙ ap waiting made;
-      hiding = hiding-same _ _ _ _ (c.save-2.ensures.is_hidden ∙ c.standing-2.ensures.is_hidden) (c.save-2.ensures.is_open ∙ c.standing-2.ensures.is_open)
+      hiding = hiding-same _ _ _ _ (c.save-2.ensures.style ∙ c.standing-2.ensures.style) (c.save-2.ensures.is_open ∙ c.standing-2.ensures.is_open)
           ∙ taken.hiding ∙ ap (λ at. hiding_from at calls) hiding;
       few_calls = few;
       same_length = put-length bytes room c.put_at_start.new.room c.put_at_start.result c.put_at_start.ensures.length c.put_at_start.ensures.written fits;

@@ -4,7 +4,9 @@ use Rattle.std.specs.Str.{chars}
 use Rattle.std.proofs.lemmas.List.{nil_from_length}
 use Rattle.std.proofs.lemmas.Str.{chars-nil}
 use Rattle.anstyle_parse.specs.Stream.Call.{print}
-use Rattle.safe_text.specs.MarkingWriter.{writer_in, TakesMarked}
+use Rattle.safe_text.specs.Marks.{mark_between}
+use Rattle.safe_text.specs.Writer.{Takes}
+use Rattle.safe_text.specs.MarkingWriter.{writer_in, open_in, TakesMarked}
 use Rattle.safe_text.specs.MarkingProof.{TakesMarked-none}
 use Rattle.safe_text.proofs.MarkLemmas.{some-characters, text-marked}
 use Rattle.safe_text.proofs.marking.MarkingWriterPerformText.print_text.Goals as goal
@@ -12,9 +14,12 @@ use Rattle.safe_text.proofs.marking.MarkingWriterPerformText.print_text.Goals as
 pub returns-then-not-is_empty : goal.returns-then-not-is_empty
 returns-then-not-is_empty g c =
     let text = c.args.text.now in
-    text-marked g.W.Sink c.args.self.now _ (chars text) (writer_in c.mark.new.self)
-    (some-characters text c.utf8.text (sym c.is_empty.ensures ∙ c.if-not-is_empty.true)) c.mark.ensures.taken c.print_text.ensures
-    c.mark.ensures.hidden c.mark.ensures.on
+    let self = c.args.self.now in
+    let hidden = c.is_unseen-hidden.ensures in
+    text-marked g.W.Sink self _ (chars text) (writer_in c.mark.new.self)
+    (some-characters text c.utf8.text (sym c.is_empty.ensures ∙ c.if-not-is_empty.true))
+    (subst (λ t. Takes g.W.Sink (writer_in self) (mark_between (open_in self) t) (writer_in c.mark.new.self)) hidden c.mark.ensures.taken)
+    c.print_text.ensures c.mark.ensures.style (c.mark.ensures.on ∙ hidden)
 
 pub returns-else-not-is_empty : goal.returns-else-not-is_empty
 returns-else-not-is_empty g c =

@@ -1,0 +1,4 @@
+pub mod Hidden
+pub mod Passing
+pub mod PassingProof
+pub mod Given

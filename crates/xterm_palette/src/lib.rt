@@ -59,7 +59,7 @@ fn level(step: u8) -> u8
 }
 
 /// One of 256.
-fn indexed(index: u8) -> u32
+pub fn indexed(index: u8) -> u32
     ensures { result ≡ indexed index }
 {
     if index < 8 {

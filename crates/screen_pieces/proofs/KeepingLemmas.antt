@@ -134,7 +134,7 @@ module _ (width height seen : ℕ) (before piece : List ℕ) (old new : Terminal
       → AreKeptSince seen (history_of old) → AreKeptSince seen (history_of new)
   none-lost (inl none) are =
       subst (λ (h : Option Kept). AreKeptSince seen (kept_of h)) (sym history-is)
-      (kept-without left seen (display_of old).history (omega (arith, few, none)) are)
+      (kept-without left seen (display_of old).history (omega (arith, subst (λ n. length left ≤ most_leaving height n) none few)) are)
   none-lost (inr room) are =
       subst (λ (h : Option Kept). AreKeptSince seen (kept_of h)) (sym history-is)
       (kept-with left seen (display_of old).history (omega (arith, few, room)) are)

@@ -86,7 +86,7 @@ impl History {
     pub(crate) fn copy(&self, alloc: Global) -> Result<History, AllocError>
         ensures { IfOk result (λ copy. copy ≡ self.now) }
     {
-        let most = self.places.len() + self.spare.len();
+        let most = self.most();
         Ok(History {
             places: copied_rows(alloc, self.places.as_slice(), self.columns, most)?,
             spare: memory_for_rows(alloc, self.columns, self.spare.len())?,
@@ -95,6 +95,13 @@ impl History {
             count: self.count,
             left: self.left,
         })
+    }
+
+    /// How many are kept at most.
+    pub fn most(&self) -> usize
+        ensures { result ≡ self.now.most }
+    {
+        self.places.len() + self.spare.len()
     }
 
     /// How many are kept, and how many have left in all, up to what the number holds.

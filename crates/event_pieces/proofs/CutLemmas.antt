@@ -42,58 +42,60 @@ module _ (b : ℕ) (bytes : List ℕ) where
   stored-in : (n : ℕ) (t : Bool) → eqb b semicolon ≡ t → through_stored (suc n) (b ∷ bytes) ≡ b ∷ (if t then through_stored (suc n) bytes else through_stored n bytes)
   stored-in n t e = ap (λ t. b ∷ (if t then through_stored (suc n) bytes else through_stored n bytes)) e
 
+module _ (b : ℕ) (bytes : List ℕ) (rest : plain_count bytes ≡ length (concat (parts_in bytes))) where
+  one-counted : (t : Bool) → eqb b semicolon ≡ t → plain_count (b ∷ bytes) ≡ length (concat (parts_in (b ∷ bytes)))
+  one-counted true e = counted-in b bytes true e ∙ rest ∙ sym (ap (λ l. length (concat l)) (slice_split-cons_yes (λ x. eqb x semicolon) b bytes e))
+  one-counted false e =
+      counted-in b bytes false e ∙ ap suc rest
+      ∙ sym (ap (λ l. length (concat l)) (slice_split-cons_no (λ x. eqb x semicolon) b bytes e) ∙ length-concat-onto_first b (parts_in bytes) (slice_split-some (λ x. eqb x semicolon) bytes))
+
 pub plain_count-parts : (bytes : List ℕ) → plain_count bytes ≡ length (concat (parts_in bytes))
 plain_count-parts [] = refl
-plain_count-parts (b ∷ bytes) = by (eqb b semicolon) refl
-  where
-    by : (t : Bool) → eqb b semicolon ≡ t → plain_count (b ∷ bytes) ≡ length (concat (parts_in (b ∷ bytes)))
-    by true e = counted-in b bytes true e ∙ plain_count-parts bytes ∙ sym (ap (λ l. length (concat l)) (slice_split-cons_yes (λ x. eqb x semicolon) b bytes e))
-    by false e =
-        counted-in b bytes false e ∙ ap suc (plain_count-parts bytes)
-        ∙ sym (ap (λ l. length (concat l)) (slice_split-cons_no (λ x. eqb x semicolon) b bytes e) ∙ length-concat-onto_first b (parts_in bytes) (slice_split-some (λ x. eqb x semicolon) bytes))
+plain_count-parts (b ∷ bytes) = one-counted b bytes (plain_count-parts bytes) (eqb b semicolon) refl
 
 -- where fewer bytes are stored than can be, all are
+module _ (n b : ℕ) (bytes : List ℕ) (rest : (m : ℕ) → plain_count (through_stored m bytes) < m → through_stored m bytes ≡ bytes) where
+  one-stored : plain_count (through_stored (suc n) (b ∷ bytes)) < suc n → (t : Bool) → eqb b semicolon ≡ t → through_stored (suc n) (b ∷ bytes) ≡ b ∷ bytes
+  one-stored few true e =
+      let one : through_stored (suc n) (b ∷ bytes) ≡ b ∷ through_stored (suc n) bytes = stored-in b bytes n true e in
+      one ∙ ap (λ l. b ∷ l) (rest (suc n) (subst (λ k. k < suc n) (ap plain_count one ∙ counted-in b (through_stored (suc n) bytes) true e) few))
+  one-stored few false e =
+      let one : through_stored (suc n) (b ∷ bytes) ≡ b ∷ through_stored n bytes = stored-in b bytes n false e in
+      let less : suc (plain_count (through_stored n bytes)) < suc n = subst (λ k. k < suc n) (ap plain_count one ∙ counted-in b (through_stored n bytes) false e) few in
+      one ∙ ap (λ l. b ∷ l) (rest n (omega (arith, less)))
+
 stored-all : (n : ℕ) (bytes : List ℕ) → plain_count (through_stored n bytes) < n → through_stored n bytes ≡ bytes
 stored-all n [] few = refl
 stored-all zero (b ∷ bytes) few = absurd (omega (arith, few))
-stored-all (suc n) (b ∷ bytes) few = by (eqb b semicolon) refl
-  where
-    by : (t : Bool) → eqb b semicolon ≡ t → through_stored (suc n) (b ∷ bytes) ≡ b ∷ bytes
-    by true e =
-        let one : through_stored (suc n) (b ∷ bytes) ≡ b ∷ through_stored (suc n) bytes = stored-in b bytes n true e in
-        one ∙ ap (λ l. b ∷ l) (stored-all (suc n) bytes (subst (λ k. k < suc n) (ap plain_count one ∙ counted-in b (through_stored (suc n) bytes) true e) few))
-    by false e =
-        let one : through_stored (suc n) (b ∷ bytes) ≡ b ∷ through_stored n bytes = stored-in b bytes n false e in
-        let less : suc (plain_count (through_stored n bytes)) < suc n = subst (λ k. k < suc n) (ap plain_count one ∙ counted-in b (through_stored n bytes) false e) few in
-        one ∙ ap (λ l. b ∷ l) (stored-all n bytes (omega (arith, less)))
+stored-all (suc n) (b ∷ bytes) few = one-stored n b bytes (λ m less. stored-all m bytes less) few (eqb b semicolon) refl
+
+module _ (n b : ℕ) (bytes : List ℕ) (rest : (m : ℕ) → plain_count bytes < m → through_stored m bytes ≡ bytes) where
+  one-few : plain_count (b ∷ bytes) < suc n → (t : Bool) → eqb b semicolon ≡ t → through_stored (suc n) (b ∷ bytes) ≡ b ∷ bytes
+  one-few few true e = stored-in b bytes n true e ∙ ap (λ l. b ∷ l) (rest (suc n) (subst (λ k. k < suc n) (counted-in b bytes true e) few))
+  one-few few false e =
+      let less : suc (plain_count bytes) < suc n = subst (λ k. k < suc n) (counted-in b bytes false e) few in
+      stored-in b bytes n false e ∙ ap (λ l. b ∷ l) (rest n (omega (arith, less)))
 
 stored-few : (n : ℕ) (bytes : List ℕ) → plain_count bytes < n → through_stored n bytes ≡ bytes
 stored-few n [] few = refl
 stored-few zero (b ∷ bytes) few = absurd (omega (arith, few))
-stored-few (suc n) (b ∷ bytes) few = by (eqb b semicolon) refl
-  where
-    by : (t : Bool) → eqb b semicolon ≡ t → through_stored (suc n) (b ∷ bytes) ≡ b ∷ bytes
-    by true e = stored-in b bytes n true e ∙ ap (λ l. b ∷ l) (stored-few (suc n) bytes (subst (λ k. k < suc n) (counted-in b bytes true e) few))
-    by false e =
-        let less : suc (plain_count bytes) < suc n = subst (λ k. k < suc n) (counted-in b bytes false e) few in
-        stored-in b bytes n false e ∙ ap (λ l. b ∷ l) (stored-few n bytes (omega (arith, less)))
+stored-few (suc n) (b ∷ bytes) few = one-few n b bytes (λ m less. stored-few m bytes less) few (eqb b semicolon) refl
 
 -- after as many as can be stored nothing counts
+module _ (n b : ℕ) (bytes more : List ℕ) (rest : (m : ℕ) → plain_count bytes ≡ m → through_stored m (bytes ++ more) ≡ through_stored m bytes) where
+  one-full : plain_count (b ∷ bytes) ≡ suc n → (t : Bool) → eqb b semicolon ≡ t → through_stored (suc n) (b ∷ (bytes ++ more)) ≡ through_stored (suc n) (b ∷ bytes)
+  one-full counted true e =
+      stored-in b (bytes ++ more) n true e ∙ ap (λ l. b ∷ l) (rest (suc n) (sym (counted-in b bytes true e) ∙ counted)) ∙ sym (stored-in b bytes n true e)
+  one-full counted false e =
+      let same : suc (plain_count bytes) ≡ suc n = sym (counted-in b bytes false e) ∙ counted in
+      stored-in b (bytes ++ more) n false e ∙ ap (λ l. b ∷ l) (rest n (omega (arith, same))) ∙ sym (stored-in b bytes n false e)
+
 stored-full : (n : ℕ) (bytes more : List ℕ) → plain_count bytes ≡ n → through_stored n (bytes ++ more) ≡ through_stored n bytes
 stored-full zero [] [] counted = refl
 stored-full zero [] (b ∷ more) counted = refl
 stored-full (suc n) [] more counted = absurd (omega (arith, counted))
 stored-full zero (b ∷ bytes) more counted = refl
-stored-full (suc n) (b ∷ bytes) more counted = by (eqb b semicolon) refl
-  where
-    by : (t : Bool) → eqb b semicolon ≡ t → through_stored (suc n) (b ∷ (bytes ++ more)) ≡ through_stored (suc n) (b ∷ bytes)
-    by true e =
-        stored-in b (bytes ++ more) n true e
-        ∙ ap (λ l. b ∷ l) (stored-full (suc n) bytes more (sym (counted-in b bytes true e) ∙ counted))
-        ∙ sym (stored-in b bytes n true e)
-    by false e =
-        let same : suc (plain_count bytes) ≡ suc n = sym (counted-in b bytes false e) ∙ counted in
-        stored-in b (bytes ++ more) n false e ∙ ap (λ l. b ∷ l) (stored-full n bytes more (omega (arith, same))) ∙ sym (stored-in b bytes n false e)
+stored-full (suc n) (b ∷ bytes) more counted = one-full n b bytes more (λ m same. stored-full m bytes more same) counted (eqb b semicolon) refl
 
 -- fewer parts, and fewer bytes in them, than are held: that is all that came
 pub whole-shown : (parts : List (List ℕ)) (text : List ℕ) → length parts < max_osc_parts → length (concat parts) < max_osc_bytes → parts_of text ≡ parts → all_parts text ≡ parts

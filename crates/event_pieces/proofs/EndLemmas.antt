@@ -1,10 +1,10 @@
 -- Bytes are given one by one, each of their calls is noted, and what is noted are the ends of records.
-use Rattle.std.proofs.Common.{◌≡◌, ◌<◌, ◌≤◌, ◌↔◌, ◌+◌, ◌-◌, ℕ, suc, List, [], ◌∷◌, ◌++◌, length, map, take, drop, get_or, min, refl, sym, ap, ◌∙◌, subst, append_assoc, append-nil, length-append, length-take, length-map, take_all, take-append-drop, arith, ⊎_elim}
+use Rattle.std.proofs.Common.{◌≡◌, ◌<◌, ◌≤◌, ◌↔◌, ◌+◌, ◌-◌, ℕ, suc, List, [], ◌∷◌, ◌++◌, length, map, take, drop, get_or, min, refl, sym, ap, ◌∙◌, subst, append_assoc, append-nil, length-append, length-take, take_all, take-append-drop, arith, ⊎_elim}
 use Rattle.std.specs.Prelude.{⊤}
 use Rattle.std.specs.List.{AllByRecursion}
 use Rattle.std.proofs.Math.Seq.{take-append_seam, drop-append_seam}
 use Rattle.std.proofs.lemmas.Bool.{cases_lt}
-use Rattle.std.proofs.lemmas.List.{append_cancel_left, map-append, get_or_at, get_or_append_left, get_or-append-add, get_or-map, get_or-take, take-append-le, take_at, take-take}
+use Rattle.std.proofs.lemmas.List.{length-map, append_cancel_left, map-append, get_or_at, get_or_append_left, get_or-append-add, get_or-map, get_or-take, take-append-le, take_at, take-take}
 use Rattle.anstyle_parse.specs.declared.accumulator.Utf8Parser.{Utf8Parser}
 use Rattle.anstyle_parse.specs.declared.parser.Parser.{Parser}
 use Rattle.anstyle_parse.specs.Views.Accumulator.{front_of, parser_added, parser_after}
@@ -18,12 +18,14 @@ use Rattle.anstyle_parse.specs.Stream.Calls.{AreCalls, Continues}
 use Rattle.anstyle_parse.proofs.Agreement.Whole.{AreCalls-machine, Continues-machine, machine_calls-append}
 use Rattle.anstyle_parse.proofs.Division.Only.{AreCalls-only}
 use Rattle.anstyle_parse.proofs.Machine.Seen.{Seen-machine}
+use Rattle.stream_state.specs.declared.state.StreamState.{StreamState}
+use Rattle.stream_state.specs.State.{StandsFor}
 use Rattle.event_pieces.specs.declared.event.Event.{Event}
 use Rattle.event_pieces.specs.declared.end_writer.EndWriter.{EndWriter}
 use Rattle.event_pieces.specs.Event.{read_events, records_of, calls_bytes, AreRecords}
 use Rattle.event_pieces.specs.Feed.{AreEventsOf}
 use Rattle.event_pieces.specs.Writer.{IsPlain, ArePlain, with_items}
-use Rattle.event_pieces.specs.Ends.{BeginWith, IsEnd, AreEnds}
+use Rattle.event_pieces.specs.Ends.{BeginWith, IsEnd, AreEnds, FindsEnds}
 use Rattle.event_pieces.specs.EndWriter.{Placed, ends_of, HasEnds, Notes, Gives}
 use Rattle.event_pieces.specs.AddingProof.{AllByRecursion-front, calls_bytes-append}
 use Rattle.event_pieces.proofs.Bounds.{plain-continued}
@@ -288,3 +290,16 @@ ends-untouched calls places places_after writer has shown =
     let ends = take (length places) (ends_of calls) in
     let few : writer.written ≡ length ends = omega (arith, has.written, length-take (length places) (ends_of calls)) in
     ap (λ n. drop n places_after) few ∙ ap (drop (length ends)) (shown ∙ has.ends) ∙ with_items-rest ends places ∙ ap (λ n. drop n places) (sym few)
+
+-- what was given to a parser that stands for a state
+pub FindsEnds-given : (state : StreamState) (parser : Parser Utf8Parser) (bytes places places_after : List ℕ) (found : ℕ) (first last : EndWriter) → AreBelow 256 bytes
+    → ((before : List ℕ) → StandsFor state before → IsAfter front_of parser before) → Gives (machine_of parser) bytes first last → HasEnds [] places first
+    → places_after ≡ last.ends.now → found ≡ last.written → FindsEnds state bytes places places_after found
+FindsEnds-given state parser bytes places places_after found first last below resumed gives begins shown counted = record {
+  counted = λ before room events is are.
+      counted ∙ found-counted parser before bytes room events places places_after first last below (resumed before is) are gives begins shown;
+  are_ends = λ before room events is are.
+      subst (λ n. AreEnds before bytes room events (take n places_after)) (sym counted)
+      (are-ends parser before bytes room events places places_after first last below (resumed before is) are gives begins shown);
+  untouched = subst (λ n. drop n places_after ≡ drop n places) (sym counted) (ends-untouched gives.calls places places_after last (gives.noted places begins) shown);
+}

@@ -65,16 +65,14 @@ ends-together : (call : Placed) (calls : List Placed) → goes_on call calls ≡
 ends-together call calls e = ap (λ g. if g then ends_of calls else call.1 ∷ ends_of calls) e
 
 -- as many ends as records
+module _ (start : ℕ) (call : Placed) (calls : List Placed) (rest : length (ends_of calls) ≡ length (behind start call calls)) where
+  one-more-end : (t : Bool) → goes_on call calls ≡ t → length (ends_of (call ∷ calls)) ≡ length (records_of start (calls_in (call ∷ calls)))
+  one-more-end true e = ap length (ends-together call calls e) ∙ rest ∙ sym (length-together (record_of start call.0) (behind start call calls) (goes-on-records start call calls ∙ e))
+  one-more-end false e = ap length (ends-apart call calls e) ∙ ap suc rest ∙ sym (ap length (joined-apart (record_of start call.0) (behind start call calls) (goes-on-records start call calls ∙ e)))
+
 pub length-ends : (start : ℕ) (calls : List Placed) → length (ends_of calls) ≡ length (records_of start (calls_in calls))
 length-ends start [] = refl
-length-ends start (call ∷ calls) = by (goes_on call calls) refl
-  where
-    rest : length (ends_of calls) ≡ length (behind start call calls)
-    rest = length-ends (start + length (call_bytes call.0)) calls
-
-    by : (t : Bool) → goes_on call calls ≡ t → length (ends_of (call ∷ calls)) ≡ length (records_of start (calls_in (call ∷ calls)))
-    by true e = ap length (ends-together call calls e) ∙ rest ∙ sym (length-together (record_of start call.0) (behind start call calls) (goes-on-records start call calls ∙ e))
-    by false e = ap length (ends-apart call calls e) ∙ ap suc rest ∙ sym (ap length (joined-apart (record_of start call.0) (behind start call calls) (goes-on-records start call calls ∙ e)))
+length-ends start (call ∷ calls) = one-more-end start call calls (length-ends (start + length (call_bytes call.0)) calls) (goes_on call calls) refl
 
 -- The calls up to the last one of the record at a place: they make the records up to it.
 pub record EndsAt (calls : List Placed) (start place : ℕ) : Type 0 where
@@ -139,13 +137,14 @@ ends-at-first call calls start e = record {
   end = ap (λ l. get_or l 0 0) (ends-apart call calls e);
 }
 
+module _ (start : ℕ) (call : Placed) (calls : List Placed)
+    (rest : (place : ℕ) → place < length (ends_of calls) → EndsAt calls (start + length (call_bytes call.0)) place) where
+  ends-at-one : (t : Bool) → goes_on call calls ≡ t → (place : ℕ) → place < length (ends_of (call ∷ calls)) → EndsAt (call ∷ calls) start place
+  ends-at-one true e place within = ends-at-together call calls start place (rest place (omega (arith, within, ap length (ends-together call calls e)))) e
+  ends-at-one false e zero within = ends-at-first call calls start e
+  ends-at-one false e (suc place) within = ends-at-apart call calls start place (rest place (omega (arith, within, ap length (ends-apart call calls e)))) e
+
 pub ends-at : (calls : List Placed) (start place : ℕ) → place < length (ends_of calls) → EndsAt calls start place
 ends-at [] start place within = absurd (omega (arith, within))
-ends-at (call ∷ calls) start place within = by (goes_on call calls) refl place within
-  where
-    by : (t : Bool) → goes_on call calls ≡ t → (place : ℕ) → place < length (ends_of (call ∷ calls)) → EndsAt (call ∷ calls) start place
-    by true e place within =
-        ends-at-together call calls start place (ends-at calls (start + length (call_bytes call.0)) place (omega (arith, within, ap length (ends-together call calls e)))) e
-    by false e zero within = ends-at-first call calls start e
-    by false e (suc place) within =
-        ends-at-apart call calls start place (ends-at calls (start + length (call_bytes call.0)) place (omega (arith, within, ap length (ends-apart call calls e)))) e
+ends-at (call ∷ calls) start place within =
+    ends-at-one start call calls (λ place within. ends-at calls (start + length (call_bytes call.0)) place within) (goes_on call calls) refl place within

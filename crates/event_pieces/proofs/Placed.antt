@@ -177,9 +177,9 @@ module _ (calls : List Placed) (places : List ℕ) (old new : EndWriter) (call :
       and_swap false false = refl
 
   -- there is none
-  module _ (full : length places ≤ old.written) (apart : (is_print call && old.is_in_text) ≡ false) (written : new.written ≡ old.written) (ends : new.ends.now ≡ old.ends.now) (none : new.is_in_text ≡ false) where
+  module _ (full : length old.ends.now ≤ old.written) (apart : (is_print call && old.is_in_text) ≡ false) (written : new.written ≡ old.written) (ends : new.ends.now ≡ old.ends.now) (none : new.is_in_text ≡ false) where
     many : length places ≤ length (ends_of calls)
-    many = omega (arith, full, has.written)
+    many = omega (arith, full, has.written, as_many)
 
     beyond : take (length places) (ends_of all) ≡ take (length places) (ends_of calls) → length (ends_of calls) ≤ length (ends_of all) → length places < length (ends_of all) → HasEnds all places new
     beyond same more past = record {

@@ -1,5 +1,5 @@
 -- One byte more is given, and its calls are noted.
-use Rattle.std.proofs.Common.{◌+◌, List, ℕ, [], ◌∷◌, ◌++◌, length, take, get_or, refl, sym, ap, ◌∙◌, subst, arith, length-take}
+use Rattle.std.proofs.Common.{◌≡◌, ◌+◌, List, ℕ, [], ◌∷◌, ◌++◌, length, take, get_or, refl, sym, ap, ◌∙◌, subst, arith, length-take}
 use Rattle.std.proofs.lemmas.List.{take_more}
 use Rattle.anstyle_parse.specs.declared.accumulator.Utf8Parser.{Utf8Parser}
 use Rattle.anstyle_parse.specs.Stream.Call.{Call, Goes}
@@ -7,7 +7,7 @@ use Rattle.anstyle_parse.specs.Views.Accumulator.{parser_after}
 use Rattle.anstyle_parse.specs.Views.Parser.{machine_of}
 use Rattle.anstyle_parse.specs.Machine.Step.{Machine, step, step_calls, machine_after}
 use Rattle.anstyle_parse.proofs.Agreement.Whole.{machine_after-append}
-use Rattle.event_pieces.specs.EndWriter.{Notes, Gives}
+use Rattle.event_pieces.specs.EndWriter.{Placed, HasEnds, Notes, Gives}
 use Rattle.event_pieces.proofs.EndLemmas.{Gives-none, Gives-more, same_reference, HasEnds-given}
 use Rattle.event_pieces.proofs.ends.give.Goals as goal
 
@@ -29,8 +29,8 @@ loop-place-preserved c =
     let given = length-take place bytes in
     let goes : Goes (λ old call new. Notes call old new) ready (step_calls parser_after byte (machine_after parser_after (take place bytes) machine)) new =
     subst (λ (m : Machine Utf8Parser). Goes (λ old call new. Notes call old new) ready (step_calls parser_after byte m) new) so_far.stands c.advance.ensures.calls in
-    let known = omega (arith, given, set.given, c.loop-place-test.true) in
-    let same = λ calls places has. HasEnds-given calls places old ready set.same_written set.same_ends set.same_text has in
+    let known : ready.given ≡ length (take place bytes) + 1 = omega (arith, given, set.given, c.loop-place-test.true) in
+    let same : (calls : List Placed) (places : List ℕ) → HasEnds calls places old → HasEnds calls places ready = λ calls places has. HasEnds-given calls places old ready set.same_written set.same_ends set.same_text has in
     record {
       same_ends = same_reference machine (take place bytes) byte c.args.writer.now old ready new so_far.gives known same goes ∙ ap (λ ends. ends.ghost_name) set.same_ends ∙ so_far.same_ends;
       stands = c.advance.ensures.machine

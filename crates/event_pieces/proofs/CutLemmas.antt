@@ -1,11 +1,10 @@
 -- A command with fewer parts and bytes than are held has all that came, and one with the most shows what a longer one does.
-use Rattle.std.proofs.Common.{◌≡◌, ◌≢◌, ◌<◌, ◌≤◌, ◌+◌, ◌-◌, ℕ, zero, suc, Bool, true, false, not, List, [], ◌∷◌, ◌++◌, length, take, drop, filter, count_by, eqb, refl, sym, ap, ◌∙◌, subst, append-nil, length-append, length-take, take_all, arith, ⊎_elim, ◌⊎◌}
+use Rattle.std.proofs.Common.{◌≡◌, ◌≢◌, ◌<◌, ◌≤◌, ◌+◌, ℕ, zero, suc, Bool, true, false, not, List, [], ◌∷◌, ◌++◌, length, take, filter, eqb, refl, sym, ap, ◌∙◌, subst, length-append, length-take, take_all, arith, ⊎_elim, ◌⊎◌}
 use Rattle.std.specs.Prelude.{if◌then◌else◌}
-use Rattle.std.specs.List.{AllByRecursion, concat, slice_split, onto_first, join_with_byte}
-use Rattle.std.proofs.Math.Seq.{take-append_seam}
+use Rattle.std.specs.List.{AllByRecursion, concat, onto_first, join_with_byte}
 use Rattle.std.proofs.lemmas.Bool.{cases_lt}
 use Rattle.std.proofs.lemmas.List.{take_at}
-use Rattle.std.proofs.lemmas.List.Splits.{length-slice_split, slice_split-cons_yes, slice_split-cons_no}
+use Rattle.std.proofs.lemmas.List.Splits.{slice_split-cons_yes, slice_split-cons_no}
 use Rattle.anstyle_parse.specs.Laws.Lawful.{is_stored, AreParts}
 use Rattle.anstyle_parse.specs.Stream.Arguments.{is_kept, through_stored, parts_of, max_osc_bytes, max_osc_parts}
 use Rattle.anstyle_parse.specs.Stream.Bytes.{semicolon}
@@ -13,7 +12,7 @@ use Rattle.anstyle_parse.specs.Stream.Items.{EachIs}
 use Rattle.anstyle_parse.proofs.Bytes.Passing.{EachIs-weaker}
 use Rattle.anstyle_parse.proofs.Canonical.Parts.{stored-no_semicolon, kept-join, parts_of-join}
 use Rattle.anstyle_parse.proofs.Lists.Parts.{spaced, slice_split-some, spaced-slice_split}
-use Rattle.anstyle_parse.proofs.Lists.Passing.{EachLacks, AllByRecursion-weaker, filter_all, slice_split-join_with_byte, join_with_byte-push_empty}
+use Rattle.anstyle_parse.proofs.Lists.Passing.{AllByRecursion-weaker, filter_all, slice_split-join_with_byte, join_with_byte-push_empty}
 use Rattle.event_pieces.specs.Event.{parts_in}
 use Rattle.event_pieces.specs.Cut.{all_parts, MayBeCut}
 use Rattle.event_pieces.specs.AddingProof.{AllByRecursion-append}

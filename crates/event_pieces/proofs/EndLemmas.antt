@@ -1,20 +1,19 @@
 -- Bytes are given one by one, each of their calls is noted, and what is noted are the ends of records.
 use Rattle.std.proofs.Common.{◌≡◌, ◌<◌, ◌≤◌, ◌↔◌, ◌+◌, ◌-◌, ℕ, suc, List, [], ◌∷◌, ◌++◌, length, map, take, drop, get_or, min, refl, sym, ap, ◌∙◌, subst, append_assoc, append-nil, length-append, length-take, take_all, take-append-drop, arith, ⊎_elim}
 use Rattle.std.specs.Prelude.{⊤}
-use Rattle.std.specs.List.{AllByRecursion}
-use Rattle.std.proofs.Math.Seq.{take-append_seam, drop-append_seam}
+use Rattle.std.proofs.Math.Seq.{take-append_seam}
 use Rattle.std.proofs.lemmas.Bool.{cases_lt}
-use Rattle.std.proofs.lemmas.List.{length-map, append_cancel_left, map-append, get_or_at, get_or_append_left, get_or-append-add, get_or-map, get_or-take, take-append-le, take_at, take-take}
+use Rattle.std.proofs.lemmas.List.{length-map, append_cancel_left, map-append, get_or_at, get_or_append_left, get_or-append-add, get_or-map, get_or-take, take-append-le, take_at}
 use Rattle.anstyle_parse.specs.declared.accumulator.Utf8Parser.{Utf8Parser}
 use Rattle.anstyle_parse.specs.declared.parser.Parser.{Parser}
 use Rattle.anstyle_parse.specs.Views.Accumulator.{front_of, parser_added, parser_after}
 use Rattle.anstyle_parse.specs.Views.DecodingProof.{Decodes-parser_after}
 use Rattle.anstyle_parse.specs.Views.Parser.{machine_of, IsAfter, AreBelow}
 use Rattle.anstyle_parse.specs.Machine.Decoder.{decoded}
-use Rattle.anstyle_parse.specs.Machine.Stands.{StandsAfter, seen}
+use Rattle.anstyle_parse.specs.Machine.Stands.{seen}
 use Rattle.anstyle_parse.specs.Machine.Step.{Machine, new_machine, step_calls, machine_after, machine_calls}
 use Rattle.anstyle_parse.specs.Stream.Call.{Call, unhook, Goes}
-use Rattle.anstyle_parse.specs.Stream.Calls.{AreCalls, Continues}
+use Rattle.anstyle_parse.specs.Stream.Calls.{Continues}
 use Rattle.anstyle_parse.proofs.Agreement.Whole.{AreCalls-machine, Continues-machine, machine_calls-append}
 use Rattle.anstyle_parse.proofs.Division.Only.{AreCalls-only}
 use Rattle.anstyle_parse.proofs.Machine.Seen.{Seen-machine}
@@ -22,9 +21,9 @@ use Rattle.stream_state.specs.declared.state.StreamState.{StreamState}
 use Rattle.stream_state.specs.State.{StandsFor}
 use Rattle.event_pieces.specs.declared.event.Event.{Event}
 use Rattle.event_pieces.specs.declared.end_writer.EndWriter.{EndWriter}
-use Rattle.event_pieces.specs.Event.{read_events, records_of, calls_bytes, AreRecords}
+use Rattle.event_pieces.specs.Event.{read_events, records_of, calls_bytes}
 use Rattle.event_pieces.specs.Feed.{AreEventsOf}
-use Rattle.event_pieces.specs.Writer.{IsPlain, ArePlain, with_items}
+use Rattle.event_pieces.specs.Writer.{IsPlain, ArePlain}
 use Rattle.event_pieces.specs.Ends.{BeginWith, IsEnd, AreEnds, FindsEnds}
 use Rattle.event_pieces.specs.EndWriter.{Placed, ends_of, HasEnds, Notes, Gives}
 use Rattle.event_pieces.specs.AddingProof.{AllByRecursion-front, calls_bytes-append}
@@ -83,6 +82,9 @@ module _ (machine : Machine Utf8Parser) (bytes : List ℕ) (byte : ℕ) (first o
   abbrev all : List ℕ
   all = bytes ++ byte ∷ []
 
+  added-long : length added ≡ length more
+  added-long = length-map more (λ call. (call, ready.given))
+
   made-all : made machine all ≡ made machine bytes ++ more
   made-all = machine_calls-append parser_after bytes (byte ∷ []) machine ∙ ap (λ l. made machine bytes ++ l) (append-nil more)
 
@@ -100,7 +102,7 @@ module _ (machine : Machine Utf8Parser) (bytes : List ℕ) (byte : ℕ) (first o
   made-then count past = ap (made machine) (take_all count all (omega (arith, past, all-long)))
 
   long : length (gives.calls ++ added) ≡ length (made machine all)
-  long = omega (arith, length-append gives.calls added, length-map more (λ call. (call, ready.given)), ap length made-all, length-append (made machine bytes) more, as_many)
+  long = omega (arith, length-append gives.calls added, added-long, ap length made-all, length-append (made machine bytes) more, as_many)
 
   -- a call of the bytes before
   place-before : (call count : ℕ) → call < length gives.calls → count ≤ length all
@@ -127,7 +129,7 @@ module _ (machine : Machine Utf8Parser) (bytes : List ℕ) (byte : ℕ) (first o
       → ((get_or (gives.calls ++ added) call none).1 ≤ count ↔ call < length (made machine (take count all)))
   place-added call count late here few =
       let at : call ≡ length gives.calls + (call - length gives.calls) = omega (arith, late) in
-      let behind : call - length gives.calls < length more = omega (arith, late, here, length-append gives.calls added, length-map more (λ c. (c, ready.given))) in
+      let behind : call - length gives.calls < length more = omega (arith, late, here, length-append gives.calls added, added-long) in
       let same_place : (get_or (gives.calls ++ added) call none).1 ≡ length bytes + 1 =
       ap (λ n. (get_or (gives.calls ++ added) n none).1) at
       ∙ ap (λ (p : Placed). p.1) (get_or-append-add gives.calls added (call - length gives.calls) none)

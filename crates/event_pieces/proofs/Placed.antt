@@ -1,8 +1,8 @@
 -- The ends of calls, as one comes after another, and as a writer notes it.
-use Rattle.std.proofs.Common.{◌≡◌, ◌<◌, ◌≤◌, ◌+◌, ◌-◌, ℕ, suc, Bool, true, false, not, ◌&&◌, List, [], ◌∷◌, ◌++◌, length, map, take, drop, min, set, nat_le, leb, refl, sym, ap, ◌∙◌, subst, append_assoc, append-nil, length-append, length-take, arith, ⊎_elim, take_all}
+use Rattle.std.proofs.Common.{◌≡◌, ◌<◌, ◌≤◌, ◌+◌, ◌-◌, ℕ, Bool, true, false, ◌&&◌, List, [], ◌∷◌, ◌++◌, length, map, take, drop, set, leb, refl, sym, ap, ◌∙◌, subst, append_assoc, append-nil, length-append, length-take, arith, ⊎_elim, take_all}
 use Rattle.std.specs.Prelude.{if◌then◌else◌}
 use Rattle.std.proofs.Math.Seq.{set-append_seam}
-use Rattle.std.proofs.lemmas.Bool.{cases_Bool, and_parts, and_from, and_left, and_right, leb-true, leb-false, le-leb, lt-leb, true≢false, cases_lt}
+use Rattle.std.proofs.lemmas.Bool.{cases_Bool, and_parts, and_from, and_right, leb-true, leb-false, le-leb, lt-leb, true≢false}
 use Rattle.std.proofs.lemmas.List.{take-append-le}
 use Rattle.anstyle_parse.specs.Stream.Call.{Call, Goes}
 use Rattle.event_pieces.specs.declared.end_writer.EndWriter.{EndWriter}

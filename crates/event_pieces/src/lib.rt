@@ -20,8 +20,6 @@ mod event;
 mod feeding;
 mod front;
 pub mod laws;
-#[cfg(test)]
-mod tests;
 mod writer;
 
 pub use cut::may_be_cut;

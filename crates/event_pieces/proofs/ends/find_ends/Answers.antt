@@ -1,5 +1,5 @@
 -- What was given to the parser that stands for the state.
-use Rattle.std.proofs.Common.{◌<◌, rules, arith}
+use Rattle.std.proofs.Common.{rules, arith}
 use Rattle.anstyle_parse.proofs.Streams.{bytes_below}
 use Rattle.event_pieces.proofs.EndLemmas.{FindsEnds-given}
 use Rattle.event_pieces.proofs.ends.find_ends.Goals as goal

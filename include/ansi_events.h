@@ -139,7 +139,7 @@ bool ansi_events_feed(ansi_events *state, const unsigned char *piece, size_t cou
  * Answers how many ends were written; what follows them is as it was. They stand in the order of the events, none is
  * less than the one before, and none more than `count`. A sequence ends with its final byte, a text with its
  * last character. What is broken off, as a character, or a string by ESC, ends with the byte that breaks it off, and
- * an event of that byte has the same end.
+ * so does an event of that byte, if it has one.
  *
  * The bytes are read once more, one by one: for who needs no ends, events cost what they did. */
 size_t ansi_events_ends(const ansi_events *before, const unsigned char *bytes, size_t count, size_t *ends, size_t most);

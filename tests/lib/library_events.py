@@ -318,14 +318,14 @@ def end_cases(ansi):
         events = [event for pairs in found for event, _ in pairs]
         yield "and they are the same events", same_events(events, [event for piece in cut for event in plain.feed(piece)])
     for kind, given in streams():
-        before, piece = given[:200], given[200:500]
+        before, piece = given[:200], given[200:350]
         stream = ansi.Events(ends=True)
         stream.feed(before)
         found, wanted = [end for _, end in stream.feed(piece)], list(ends_by_definition(ansi, before, piece))
         yield "Python: where events of %s end, by their definition" % kind, None if found == wanted else "it gives %s, not %s" % (found, wanted)
     long, stream = b"a\x1b[1mb\n" * 30_000, ansi.Events(ends=True)
     found = stream.feed(long)
-    wrong = [(event, end) for event, end in found if (type(event) is ansi.Execute) != (end % 8 == 0 and long[end - 1] == 10)]
+    wrong = [(event, end) for event, end in found if (type(event) is ansi.Execute) != (end % 7 == 0 and long[end - 1] == 10)]
     yield "Python: where 90,000 events of many calls end", None if len(found) >= 90_000 and not wrong and found[-1][1] == len(long) else "it gives %s" % wrong[:3]
     first = stream.feed(b"\x1b[")
     stream.end()

@@ -53,11 +53,7 @@ pub extern "C" fn ansi_events_feed(
 /// Writes where each record of these bytes ends, of as many as there are places for, and answers how many:
 /// [`find_ends`]. The state is that before the bytes.
 #[unsafe(no_mangle)]
-pub extern "C" fn ansi_events_ends(
-    before: &StreamState,
-    bytes: &[u8],
-    ends: &mut [usize],
-) -> usize
+pub extern "C" fn ansi_events_ends(before: &StreamState, bytes: &[u8], ends: &mut [usize]) -> usize
     ensures { FindsEnds before.now bytes.now ends.old ends.new result }
 {
     find_ends(before, bytes, ends)

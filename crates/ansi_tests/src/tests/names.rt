@@ -344,7 +344,10 @@ fn names_of_events(rt: HostRuntime) {
     ];
     assert_eq!(rt; others.len(), 4);
     let mut ends = [0; 4];
-    assert_eq!(rt; event_pieces::find_ends(&before, b"\x1B[31mx\x07", &mut ends), 3);
+    assert_eq!(rt;
+        event_pieces::find_ends(&before, b"\x1B[31mx\x07", &mut ends),
+        3
+    );
     assert_eq!(rt; ends, [5, 6, 7, 0]);
     assert!(rt; !event_pieces::may_be_cut(&events[0], &room));
     event_pieces::laws::ends();

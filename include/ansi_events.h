@@ -26,7 +26,7 @@
  *
  * The end of the stream needs no call: a sequence or a character that is begun and never ended leaves no event.
  *
- * What the caller owes to both functions: each pointer is to memory of its own that lives as
+ * What the caller owes to each function: each pointer is to memory of its own that lives as
  * long as the call; it is not null, also where the size beside it is 0; and no two of the
  * pieces of memory overlap. Nothing is kept of a pointer after the call.
  */
@@ -65,7 +65,8 @@ extern "C" {
 #define ANSI_EVENTS_UNHOOK 4
 
 /* An operating system command: in the room its 1 to 16 parts with `;` between them, at most 1,039 bytes in
- * all. No part has a `;`. What came after is dropped, and nothing tells so. `flag` is 1 where BEL ended it. */
+ * all. No part has a `;`. What came after is dropped: ansi_events_may_be_cut tells where some may have come.
+ * `flag` is 1 where BEL ended it. */
 #define ANSI_EVENTS_OSC 5
 
 /* A control sequence: in the room its 1 to 32 fields; in `intermediates` its marker (one of < = > ?) and its
@@ -128,6 +129,27 @@ void ansi_events_init(ansi_events *state);
 bool ansi_events_feed(ansi_events *state, const unsigned char *piece, size_t count, ansi_event *events,
                       size_t most, unsigned char *room, size_t size, size_t *taken, size_t *written,
                       size_t *used);
+
+/* Writes where each event ends: how many of the bytes had come when it was whole.
+ *
+ * before          a copy of the state, made before ansi_events_feed took the bytes
+ * bytes, count    the bytes that it took
+ * ends, most      where the ends go, for as many events as it wrote; with fewer places, for the first of them
+ *
+ * Answers how many ends were written; what follows them is as it was. They stand in the order of the events, none is
+ * less than the one before, and none more than `count`. A sequence ends with its final byte, a text with its
+ * last character. What is broken off, as a character, or a string by ESC, ends with the byte that breaks it off, and
+ * so does an event of that byte, if it has one.
+ *
+ * The bytes are read once more, one by one: for who needs no ends, events cost what they did. */
+size_t ansi_events_ends(const ansi_events *before, const unsigned char *bytes, size_t count, size_t *ends, size_t most);
+
+/* Answers whether a command may have been cut: whether it has 16 parts, or 1,024 bytes in them, which are the most that
+ * are kept. Where it answers false, all that came is there. Where it answers true, nothing tells whether more came.
+ *
+ * event         an event; of a kind that is not ANSI_EVENTS_OSC the answer is false
+ * room, size    the bytes that were used of the room, as they were written with it */
+bool ansi_events_may_be_cut(const ansi_event *event, const unsigned char *room, size_t size);
 
 #ifdef __cplusplus
 }

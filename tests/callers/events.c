@@ -44,6 +44,8 @@ static_assert(ANSI_EVENTS_ROOM(0x40000000) == 0x18000186C, "also of a large coun
 static void (*const init)(ansi_events *) = ansi_events_init;
 static bool (*const feed)(ansi_events *, const unsigned char *, size_t, ansi_event *, size_t, unsigned char *,
                           size_t, size_t *, size_t *, size_t *) = ansi_events_feed;
+static size_t (*const find_ends)(const ansi_events *, const unsigned char *, size_t, size_t *, size_t) = ansi_events_ends;
+static bool (*const may_be_cut)(const ansi_event *, const unsigned char *, size_t) = ansi_events_may_be_cut;
 
 enum { AFTER = 64, MOST = 4096, SIZE = 65536, LONGEST = 1 << 20 };
 
@@ -167,6 +169,50 @@ static void longest_command_has_room(void)
     expect(written == 1 && is(&events[0], ANSI_EVENTS_OSC, 0, 1, 1039), "its parts have 1,039 bytes with what joins them");
 }
 
+/* Where events end, of which the state before the bytes tells, and no more than there are places for. */
+static void events_have_ends(void)
+{
+    static const char text[] = "1ma\033]0;t\030b";
+    ansi_events before;
+    size_t ends[8];
+
+    memset(&it, 0, sizeof it);
+    goes_on("\033[3", MOST, SIZE);
+    before = it.state;
+    expect(goes_on(text, MOST, SIZE) && taken == 10 && written == 5, "there are five events");
+    memset(ends, 0x7E, sizeof ends);
+    expect(find_ends(&before, (const unsigned char *)text, taken, ends, 8) == 5, "and five ends");
+    expect(ends[0] == 2 && ends[1] == 3 && ends[2] == 9 && ends[3] == 9 && ends[4] == 10, "each where its event is whole");
+    expect(are((unsigned char *)&ends[5], sizeof ends - 5 * sizeof *ends, 0x7E), "what follows them is as it was");
+    memset(ends, 0x7E, sizeof ends);
+    expect(find_ends(&before, (const unsigned char *)text, taken, ends, 2) == 2, "two where there are two places");
+    expect(ends[0] == 2 && ends[1] == 3 && are((unsigned char *)&ends[2], sizeof ends - 2 * sizeof *ends, 0x7E), "of the first events");
+    expect(find_ends(&before, (const unsigned char *)text, 0, ends, 8) == 0, "no bytes have no ends");
+    expect(find_ends(&before, (const unsigned char *)text, taken, ends, 0) == 0, "and none is asked for");
+}
+
+/* A command of so many bytes may be cut from 1,024 on; no other event is, and none whose bytes are not there. */
+static void commands_may_be_cut(void)
+{
+    size_t count;
+
+    for (count = 1022; count < 1027; count++) {
+        memset(&it, 0, sizeof it);
+        memcpy(bytes, "\033]", 2);
+        memset(bytes + 2, 'x', count);
+        bytes[count + 2] = '\007';
+        expect(feed(&it.state, bytes, count + 3, events, MOST, room, SIZE, &taken, &written, &used) && written == 1, "it is a command");
+        expect(may_be_cut(&events[0], room, used) == (count >= 1024), "which may be cut if it has all that is kept");
+        expect(!may_be_cut(&events[0], room, used / 2), "and which is short where half of it is there");
+        events[0].kind = ANSI_EVENTS_TEXT;
+        expect(!may_be_cut(&events[0], room, used), "no text is");
+        events[0].kind = ANSI_EVENTS_OSC;
+        events[0].start = (size_t)-1;
+        events[0].length = (size_t)-1;
+        expect(!may_be_cut(&events[0], room, used), "and none that is not in the room");
+    }
+}
+
 static int try_all(void)
 {
     events_have_their_fields();
@@ -174,6 +220,8 @@ static int try_all(void)
     little_is_refused();
     any_bytes_are_a_state();
     longest_command_has_room();
+    events_have_ends();
+    commands_may_be_cut();
     return failures != 0;
 }
 

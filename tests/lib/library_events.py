@@ -147,6 +147,8 @@ def python_event_cases(ansi):
     yield from put_cases(ansi)
     yield from caller_stream_cases(ansi)
     yield from kept_cases(ansi)
+    yield from end_cases(ansi)
+    yield from cut_cases(ansi)
 
 
 def alike(ansi):
@@ -270,6 +272,88 @@ def kept_cases(ansi):
     count = len(ansi.event.WITHOUT_DATA)
     yield "Python: events of all escape sequences", why
     yield "Python: few of them are kept", None if count <= ansi.event.KEPT else "%d are" % count
+
+
+# Where events end, worked by hand: for each piece of a stream, how many of its bytes had come when each event was whole.
+ENDS = [
+    ("a text, a sequence and a text", [b"a\x1b[1mb"], [[1, 5, 6]]),
+    ("nothing", [b"", b"a", b""], [[], [1], []]),
+    ("a sequence that is begun", [b"\x1b[1"], [[]]),
+    ("a character of three bytes", [b"ab\xe2\x82\xacc\n"], [[6, 7]]),
+    ("a character over two pieces", [b"a\xe2\x82", b"\xacb"], [[1], [2]]),
+    ("one that the next piece breaks", [b"\xe2\x82", b"A\n"], [[], [1, 2]]),
+    ("one that a control breaks", [b"\xe2\x82\n"], [[3, 3]]),
+    ("one that another breaks", [b"a\xc3\xc3"], [[3]]),
+    ("a sequence over two pieces", [b"x\x1b[1", b";2mB"], [[1], [3, 4]]),
+    ("CAN within a sequence", [b"\x1b[1\x18a"], [[4, 5]]),
+    ("CAN at the end of a command", [b"\x1b]0;t\x18a"], [[6, 6, 7]]),
+    ("BEL there", [b"\x1b]0;t\x07a"], [[6, 7]]),
+    ("ESC there", [b"\x1b]0;t\x1b\\a"], [[6, 7, 8]]),
+    ("a command over three pieces", [b"\x1b]0;", b"t", b"\x07"], [[], [], [1]]),
+    ("C1", [b"\x85\x9b1m"], [[1, 4]]),
+    ("a device control string", [b"\x1bPqxy\x1b\\a"], [[3, 4, 5, 6, 7, 8]]),
+    ("a control within a sequence", [b"\x1b[1\nm"], [[4, 5]]),
+]
+
+
+def ends_by_definition(ansi, before, piece):
+    """The ends of a piece's events: the fewest bytes of it whose calls begin with those of the events so far."""
+    calls = lambda bytes_: list(lines_of_events(ansi.events([before, bytes_])))
+    own = calls(b"")
+    fronts = [calls(piece[:count])[len(own) :] for count in range(len(piece) + 1)]
+    stream = ansi.Events()
+    stream.feed(before)
+    events = stream.feed(piece)
+    for at in range(1, len(events) + 1):
+        said = list(lines_of_events(events[:at]))
+        yield next(count for count, front in enumerate(fronts) if front[: len(said)] == said)
+
+
+def end_cases(ansi):
+    for name, cut, wanted in ENDS:
+        stream, plain = ansi.Events(ends=True), ansi.Events()
+        found = [stream.feed(piece) for piece in cut]
+        ends = [[end for _, end in pairs] for pairs in found]
+        yield "Python: where events end: %s" % name, None if ends == wanted else "it gives %s" % ends
+        events = [event for pairs in found for event, _ in pairs]
+        yield "and they are the same events", same_events(events, [event for piece in cut for event in plain.feed(piece)])
+    for kind, given in streams():
+        before, piece = given[:200], given[200:350]
+        stream = ansi.Events(ends=True)
+        stream.feed(before)
+        found, wanted = [end for _, end in stream.feed(piece)], list(ends_by_definition(ansi, before, piece))
+        yield "Python: where events of %s end, by their definition" % kind, None if found == wanted else "it gives %s, not %s" % (found, wanted)
+    long, stream = b"a\x1b[1mb\n" * 30_000, ansi.Events(ends=True)
+    found = stream.feed(long)
+    wrong = [(event, end) for event, end in found if (type(event) is ansi.Execute) != (end % 7 == 0 and long[end - 1] == 10)]
+    yield "Python: where 90,000 events of many calls end", None if len(found) >= 90_000 and not wrong and found[-1][1] == len(long) else "it gives %s" % wrong[:3]
+    first = stream.feed(b"\x1b[")
+    stream.end()
+    yield "Python: where events end, after the end of a stream", None if (first, stream.feed(b"1m")) == ([], [(("1m",), 2)]) else "it goes on"
+
+
+# Commands, with BEL behind each, and whether they may have been cut: 1,024 bytes are kept, in 16 parts.
+COMMANDS = [
+    ("a title", b"0;t", False),
+    ("nothing", b"", False),
+    ("1,023 bytes", b"x" * 1023, False),
+    ("1,024", b"x" * 1024, True),
+    ("1,025", b"x" * 1025, True),
+    ("1,023 in two parts", b"0;" + b"x" * 1022, False),
+    ("1,024 in two parts", b"0;" + b"x" * 1023, True),
+    ("15 parts", b";" * 14, False),
+    ("16", b";" * 15, True),
+    ("17", b";" * 16, True),
+    ("1,023 bytes, with controls that are none of it", b"x\n" * 1023, False),
+]
+
+
+def cut_cases(ansi):
+    for name, text, wanted in COMMANDS:
+        (found,) = ansi.events(b"\x1b]" + text + b"\x07")
+        yield "Python: whether a command of %s may have been cut" % name, None if found.may_be_cut is wanted else "it answers %s" % found.may_be_cut
+        whole = found.parts == tuple(text.replace(b"\n", b"").split(b";"))
+        yield "and it has all that came where it may not", None if whole or found.may_be_cut else "it has %r" % (found.parts,)
 
 
 def events_differ(path, sizes, stream, wanted):

@@ -37,7 +37,7 @@ PHRASES = {
         "flag is {BELL} where bel ended it", "its 1 to {MAX_PARAMS} fields", "flag is {IGNORED} where more came than is shown", "byte and flag as those of",
         "and {GROUP} where the next field belongs to the same group", "or 0 where a; did or the field is the last", "a field with no digit is 0",
         "a value is {MAX_FIELD} at most", "an event: {ansi_event} bytes", "0 where it has none", "does not speak of is 0", "at most {MAX_INTERMEDIATES}; what is after them is 0",
-        ". each 0.", "two pieces: {ansi_events} bytes", "a room of 16,384 bytes and 1,024 events are few calls", "taken, written and used become 0",
+        ". each 0.", "two pieces: {ansi_events} bytes", "a room of 16,384 bytes and 1,024 events are few calls", "taken, written and used become 0", "it has {MAX_OSC_PARTS} parts, or {MAX_OSC_RAW} bytes in them",
     ],
     "man/ansi_events.3": [
         *OWED, *FALSE, "a byte, a flag, up to two intermediates", "{MAX_OSC_PARTS} at most, of {MAX_OSC_RAW} bytes in all", "the flag says that bel ended it",

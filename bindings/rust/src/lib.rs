@@ -176,6 +176,16 @@ unsafe extern "C" {
         written: *mut usize,
         used: *mut usize,
     ) -> bool;
+
+    fn ansi_events_ends(
+        before: *const StripState,
+        bytes: *const u8,
+        count: usize,
+        ends: *mut usize,
+        most: usize,
+    ) -> usize;
+
+    fn ansi_events_may_be_cut(event: *const Record, room: *const u8, size: usize) -> bool;
 }
 
 const STRIP_ROOM: usize = 4096;
@@ -187,6 +197,7 @@ const SAFE_END_ROOM: usize = 50;
 const HTML_END_ROOM: usize = 6539;
 const EVENTS: usize = 1024;
 const EVENTS_ROOM: usize = 16384;
+const OSC: u8 = 5;
 
 /// A call of the library that takes bytes from the front of a piece, by a stream's state, and writes into a room.
 type Feed<State> = unsafe extern "C" fn(
@@ -571,6 +582,25 @@ pub enum Event {
     Esc(Sequence),
 }
 
+impl Event {
+    /// Whether it is an operating system command that may have been cut: that has 16 parts, or 1,024 bytes in them, which are
+    /// the most that are kept. Where it is not, all that came is there; where it is, nothing tells whether more came.
+    #[must_use]
+    pub fn may_be_cut(&self) -> bool {
+        let Event::Osc(parts, _) = self else {
+            return false;
+        };
+        let text = parts.join(&b';');
+        let record = Record {
+            length: text.len(),
+            kind: OSC,
+            ..Record::default()
+        };
+        // The references are to memory of their own, and none of them is kept.
+        unsafe { ansi_events_may_be_cut(&raw const record, text.as_ptr(), text.len()) }
+    }
+}
+
 /// What an escape or a control sequence says.
 #[derive(Clone, Debug, PartialEq, Eq)]
 pub struct Sequence {
@@ -684,6 +714,82 @@ impl<I: Iterator> fmt::Debug for Events<I> {
     }
 }
 
+/// The events of a stream in pieces, each with where it ends.
+pub struct EventsWithEnds<I: Iterator> {
+    events: Events<I>,
+    /// How many bytes of the stream came before those that the library read last, how many these were, and where among them
+    /// their events end.
+    before: usize,
+    taken: usize,
+    ends: Vec<usize>,
+}
+
+/// The events of a stream in pieces, as [`events`] gives them, each with how many bytes of the stream had come when it was
+/// whole. An event ends with the byte that ends its sequence, or with that which breaks it off; two may end with one byte. The
+/// library reads the bytes once more for that.
+pub fn events_with_ends<I: IntoIterator<Item = impl AsRef<[u8]>>>(pieces: I) -> EventsWithEnds<I::IntoIter> {
+    EventsWithEnds {
+        events: events(pieces),
+        before: 0,
+        taken: 0,
+        ends: Vec::new(),
+    }
+}
+
+impl<I: Iterator<Item = impl AsRef<[u8]>>> EventsWithEnds<I> {
+    /// Reads on, and finds the ends of what was read.
+    fn read_on(&mut self) -> Option<()> {
+        let (state, read) = (self.events.state.clone(), self.events.read);
+        self.events.read_on()?;
+        let piece = self.events.piece.as_ref().map_or(&[][..], AsRef::as_ref);
+        let bytes = piece.get(read..self.events.read).unwrap_or_default(); // (nothing where the next piece is there)
+        self.before += self.taken;
+        self.taken = bytes.len();
+        self.ends.resize(self.events.waiting.len(), 0);
+        // The references are to memory of their own, and none of them is kept.
+        let found = unsafe {
+            ansi_events_ends(
+                &raw const state,
+                bytes.as_ptr(),
+                bytes.len(),
+                self.ends.as_mut_ptr(),
+                self.ends.len(),
+            )
+        };
+        assert_eq!(found, self.ends.len(), "each event has an end");
+        Some(())
+    }
+}
+
+impl<I: Iterator<Item = impl AsRef<[u8]>>> Iterator for EventsWithEnds<I> {
+    type Item = (Event, usize);
+
+    fn next(&mut self) -> Option<(Event, usize)> {
+        while self.events.waiting.is_empty() {
+            self.read_on()?;
+        }
+        let end = self.before + self.ends[self.events.waiting.start];
+        Some((self.events.next()?, end))
+    }
+}
+
+impl<I: Iterator<Item: Clone> + Clone> Clone for EventsWithEnds<I> {
+    fn clone(&self) -> EventsWithEnds<I> {
+        EventsWithEnds {
+            events: self.events.clone(),
+            before: self.before,
+            taken: self.taken,
+            ends: self.ends.clone(),
+        }
+    }
+}
+
+impl<I: Iterator> fmt::Debug for EventsWithEnds<I> {
+    fn fmt(&self, formatter: &mut fmt::Formatter<'_>) -> fmt::Result {
+        formatter.debug_struct("EventsWithEnds").finish_non_exhaustive()
+    }
+}
+
 /// The event of a record, with the bytes of the room that it stands for.
 fn event(record: &Record, room: &[u8]) -> Event {
     let bytes = &room[record.start..][..record.length];
@@ -699,7 +805,7 @@ fn event(record: &Record, room: &[u8]) -> Event {
         2 => Event::Hook(sequence(groups(bytes))),
         3 => Event::Put(record.byte),
         4 => Event::Unhook,
-        5 => Event::Osc(bytes.split(|byte| *byte == b';').map(<[u8]>::to_vec).collect(), record.flag != 0),
+        OSC => Event::Osc(bytes.split(|byte| *byte == b';').map(<[u8]>::to_vec).collect(), record.flag != 0),
         6 => Event::Csi(sequence(groups(bytes))),
         _ => Event::Esc(sequence(Vec::new())),
     }

@@ -1,6 +1,6 @@
 //! The calls of the package, as a user makes them: of wholes, of streams in pieces, and where a writer fails.
 
-use ansi_proved::{events, events_of, strip, strip_lf, strip_safe, to_html, Converter, Event, SafeStripper, Sequence, Stripper, Styling};
+use ansi_proved::{events, events_of, events_with_ends, strip, strip_lf, strip_safe, to_html, Converter, Event, SafeStripper, Sequence, Stripper, Styling};
 use std::borrow::Cow;
 use std::cell::Cell;
 use std::convert::Infallible;
@@ -285,6 +285,31 @@ fn events_of_each_kind() {
     assert_eq!(events(stream.chunks(1)).collect::<Vec<_>>(), wanted);
     assert_eq!(events_of(std::str::from_utf8(stream).unwrap()).collect::<Vec<_>>(), wanted);
     assert_eq!(events([b"\x1b[256;65535m"]).collect::<Vec<_>>(), [csi(&[&[256], &[65535]], b'm')]);
+}
+
+#[test]
+fn events_end_where_they_are_whole() {
+    fn ends(pieces: &[&[u8]]) -> Vec<usize> {
+        events_with_ends(pieces).map(|(_, end)| end).collect()
+    }
+    assert_eq!(ends(&[b"a\x1b[1mb"]), [1, 5, 6]);
+    assert_eq!(ends(&[b"a\xe2\x82", b"", b"\xacb\n", b"\x1b["]), [1, 5, 6]);
+    assert_eq!(ends(&[b"\x1b]0;", b"t\x18a"]), [6, 6, 7]);
+    let long = b"a\x1b[1m\n".repeat(10_000);
+    let wanted: Vec<_> = (0..10_000).flat_map(|at| [6 * at + 1, 6 * at + 5, 6 * at + 6]).collect();
+    assert_eq!(ends(&[&long]), wanted);
+    let (found, ends): (Vec<_>, Vec<_>) = events_with_ends(long.chunks(999)).clone().unzip();
+    assert_eq!(ends, wanted);
+    assert!(found.into_iter().eq(events(long.chunks(999))));
+    assert_eq!(format!("{:?}", events_with_ends([b"a"])), "EventsWithEnds { .. }");
+}
+
+#[test]
+fn commands_with_all_that_is_kept_may_be_cut() {
+    let may_be_cut = |text: &[u8]| events_of([b"\x1b]", text, b"\x07"].concat()).next().unwrap().may_be_cut();
+    assert!(!may_be_cut(b"0;t") && !may_be_cut(&[b'x'; 1023]) && may_be_cut(&[b'x'; 1024]) && may_be_cut(&[b'x'; 1025]));
+    assert!(!may_be_cut(&[b';'; 14]) && may_be_cut(&[b';'; 15]) && may_be_cut(&[b';'; 16]));
+    assert!(!Event::Execute(7).may_be_cut());
 }
 
 #[test]

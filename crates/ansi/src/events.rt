@@ -3,10 +3,12 @@
 ghost use Rattle.std.specs.Prelude.{◌≡◌, []};
 ghost use Rattle.std.specs.Bool.{OnTrue, OnFalse};
 ghost use Rattle.stream_state.specs.State.{StandsFor};
+ghost use Rattle.event_pieces.specs.Cut.{TellsCut};
+ghost use Rattle.event_pieces.specs.Ends.{FindsEnds};
 ghost use Rattle.event_pieces.specs.Feed.{Feeds, Refuses};
 ghost use Rattle.ansi.specs.Counts.{counts};
 
-use event_pieces::{Event, feed};
+use event_pieces::{Event, feed, find_ends, may_be_cut};
 use stream_state::StreamState;
 
 /// Makes the state one that begins a stream.
@@ -46,4 +48,21 @@ pub extern "C" fn ansi_events_feed(
             false
         }
     }
+}
+
+/// Writes where each record of these bytes ends, of as many as there are places for, and answers how many:
+/// [`find_ends`]. The state is that before the bytes.
+#[unsafe(no_mangle)]
+pub extern "C" fn ansi_events_ends(before: &StreamState, bytes: &[u8], ends: &mut [usize]) -> usize
+    ensures { FindsEnds before.now bytes.now ends.old ends.new result }
+{
+    find_ends(before, bytes, ends)
+}
+
+/// Whether a command may have been cut: [`may_be_cut`].
+#[unsafe(no_mangle)]
+pub extern "C" fn ansi_events_may_be_cut(event: &Event, room: &[u8]) -> bool
+    ensures { TellsCut room.now event.now result }
+{
+    may_be_cut(event, room)
 }

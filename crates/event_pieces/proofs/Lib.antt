@@ -8,3 +8,8 @@ pub mod Bounds
 pub mod FeedLemmas
 pub mod Fronts
 pub mod Divided
+pub mod Placed
+pub mod Parted
+pub mod EndLemmas
+pub mod EndLaws
+pub mod CutLemmas

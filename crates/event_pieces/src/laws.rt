@@ -1,7 +1,8 @@
 //! Laws of events of pieces and of `==`. Each is the contract of a function that does nothing.
-ghost use Rattle.std.specs.Prelude.{◌≡◌, ◌↔◌, ℕ, List, [], ◌++◌, IsTrue};
+ghost use Rattle.std.specs.Prelude.{◌≡◌, ◌≤◌, ◌<◌, ◌↔◌, ℕ, List, [], ◌++◌, length, get_or, IsTrue};
 ghost use Rattle.anstyle_parse.specs.Stream.Call.{Call};
 ghost use Rattle.anstyle_parse.specs.Stream.Calls.{AreCalls, Continues};
+ghost use Rattle.event_pieces.specs.Ends.{AreEnds};
 ghost use Rattle.event_pieces.specs.Event.{read_events};
 ghost use Rattle.event_pieces.specs.Feed.{AreEventsOf};
 
@@ -16,6 +17,19 @@ pub fn events_joined()
         → Continues before (bytes ++ more) (read_events room events ++ read_events more_room others) }
     ensures whole { (bytes room : List ℕ) (events : List Event) → AreEventsOf [] bytes room events
         → AreCalls bytes (read_events room events) }
+{}
+
+/// Ends never go down, and lie within the bytes; and no others are ends of these records.
+pub fn ends()
+    ensures ordered { (before bytes room : List ℕ) (events : List Event) (ends : List ℕ)
+        → AreEventsOf before bytes room events → AreEnds before bytes room events ends
+        → (place other : ℕ) → place ≤ other → other < length ends → get_or ends place 0 ≤ get_or ends other 0 }
+    ensures within { (before bytes room : List ℕ) (events : List Event) (ends : List ℕ)
+        → AreEventsOf before bytes room events → AreEnds before bytes room events ends
+        → (place : ℕ) → place < length ends → get_or ends place 0 ≤ length bytes }
+    ensures only { (before bytes room : List ℕ) (events : List Event) (ends others : List ℕ)
+        → AreEventsOf before bytes room events → AreEnds before bytes room events ends
+        → AreEnds before bytes room events others → length others ≡ length ends → others ≡ ends }
 {}
 
 /// `==` of what calls took and wrote is equality.

@@ -13,11 +13,16 @@
 //! ```
 #![tactic(auto)]
 
+mod cut;
+mod end_writer;
+mod ends;
 mod event;
 mod feeding;
 mod front;
 pub mod laws;
 mod writer;
 
+pub use cut::may_be_cut;
+pub use ends::find_ends;
 pub use event::{CSI, ESC, EXECUTE, Event, HOOK, OSC, PUT, TEXT, UNHOOK};
 pub use feeding::{Fed, LEAST_EVENTS, LEAST_ROOM, feed};

@@ -1,6 +1,6 @@
 """The types of this package, for type checkers and editors."""
 
-from typing import Dict, Iterable, Iterator, List, Literal, Protocol, TypeVar, Union, overload
+from typing import Dict, Generic, Iterable, Iterator, List, Literal, Protocol, Tuple, TypeVar, Union, overload
 
 from .event import Csi as Csi, Esc as Esc, Event as Event, Execute as Execute, Hook as Hook, Osc as Osc, Put as Put, Text as Text
 from .event import Unhook as Unhook
@@ -10,6 +10,7 @@ from .screen import Modes as Modes, Place as Place, Screen as Screen, Style as S
 _Bytes = Union[bytes, bytearray, memoryview]
 _Styling = Literal["both", "light", "dark", "classes"]
 _Piece = TypeVar("_Piece", str, bytes, covariant=True)
+_Found = TypeVar("_Found", Event, Tuple[Event, int])
 
 class _File(Protocol[_Piece]):
     def read(self, __size: int) -> _Piece: ...
@@ -49,7 +50,10 @@ def stylesheet(scheme: Literal["both", "light", "dark"] = "both") -> str: ...
 
 def events(stream: Union[str, _Bytes, Iterable[Union[str, _Bytes]], _File[str], _File[bytes]]) -> Iterator[Event]: ...
 
-class Events:
-    def __init__(self) -> None: ...
-    def feed(self, piece: Union[str, _Bytes]) -> List[Event]: ...
+class Events(Generic[_Found]):
+    @overload
+    def __init__(self: Events[Event], ends: Literal[False] = False) -> None: ...
+    @overload
+    def __init__(self: Events[Tuple[Event, int]], ends: Literal[True]) -> None: ...
+    def feed(self, piece: Union[str, _Bytes]) -> List[_Found]: ...
     def end(self) -> None: ...

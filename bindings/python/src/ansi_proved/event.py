@@ -22,6 +22,7 @@ PUTS_AT_ONCE = re.compile(b"\x03\x03*")  # kinds PUT, one after another (by "\x0
 KEPT = 16384  # events that a stream keeps, to give them again; looked at where as many were read
 KEPT_LENGTH = 64  # bytes in the room that such an event has at most
 FIELD, ALONE = struct.Struct("<HB"), struct.Struct("<Hx")  # a field, and one that is a group by itself
+RECORD = struct.Struct("@NNB7x")  # a record with no more than where its bytes are, and its kind
 _new = tuple.__new__
 
 _feed = function(
@@ -29,6 +30,11 @@ _feed = function(
     ctypes.c_void_p, ctypes.c_void_p, ctypes.c_size_t, ctypes.c_void_p, ctypes.c_size_t,
     ctypes.c_void_p, ctypes.c_size_t, ctypes.c_void_p, ctypes.c_void_p, ctypes.c_void_p,
 )  # fmt: skip
+_ends = function(
+    "ansi_events_ends", ctypes.c_size_t,
+    ctypes.c_void_p, ctypes.c_void_p, ctypes.c_size_t, ctypes.c_void_p, ctypes.c_size_t,
+)  # fmt: skip
+_may_be_cut = function("ansi_events_may_be_cut", ctypes.c_bool, ctypes.c_void_p, ctypes.c_void_p, ctypes.c_size_t)
 
 
 class Text(NamedTuple):
@@ -63,11 +69,16 @@ class Unhook(NamedTuple):
 
 
 class Osc(NamedTuple):
-    """An operating system command: its first 16 parts, of 1,024 bytes in all, and whether BEL ended it. That more came
-    is not told."""
+    """An operating system command: its first 16 parts, of 1,024 bytes in all, and whether BEL ended it."""
 
     parts: Tuple[bytes, ...]
     bell: bool
+
+    @property
+    def may_be_cut(self) -> bool:
+        """Whether more may have come: it has the most parts, or the most bytes in them. Where not, that is all that came."""
+        text = b";".join(self.parts)
+        return _may_be_cut(RECORD.pack(0, len(text), OSC), text, len(text))
 
 
 class Csi(NamedTuple):
@@ -169,10 +180,11 @@ NUMBERS_AT = [Numbers.taken.offset, Numbers.written.offset, Numbers.used.offset]
 
 
 class _Reader:
-    """A stream, which goes on with each piece."""
+    """A stream, which goes on with each piece; its events, or pairs of each and where it ends."""
 
-    def __init__(self):
+    def __init__(self, ends=False):
         self._state, self._numbers, self._kept, self._most, self._read = State(), Numbers(), _Kept(), 0, 0
+        self._ends = (ctypes.c_size_t * EVENTS)() if ends else None
 
     def _make_room(self, most):
         """Makes room for the events of so many bytes, or for what one call writes at most."""
@@ -187,17 +199,27 @@ class _Reader:
         if self._most < min(MOST, len(piece)):
             self._make_room(min(MOST, len(piece)))
         numbers, state, at = self._numbers, ctypes.addressof(self._state), address_of(piece)
-        end = at + len(piece)
+        start, end = at, at + len(piece)
         while at < end:
+            before = self._ends and State.from_buffer_copy(self._state)
             if not _feed(state, at, min(MOST, end - at), *self._rest):
                 raise RuntimeError(TOO_LITTLE)
-            at += numbers.taken
             written = ctypes.string_at(self._records_at, SIZE * numbers.written)
-            yield from self._parts(written, ctypes.string_at(self._room_at, numbers.used))
+            parts = self._parts(written, ctypes.string_at(self._room_at, numbers.used))
+            yield from [self._with_ends(parts, before, at, at - start)] if before else parts
+            at += numbers.taken
             self._read += len(written) // SIZE
             if self._read > KEPT:
                 self._read = 0
                 self._kept.make_room()
+
+    def _with_ends(self, parts, before, at, start):
+        """Pairs of the events of one call and where they end, by the state before it, where its bytes are, and how many of the piece
+        came before these."""
+        numbers, places = self._numbers, ctypes.addressof(self._ends)
+        if _ends(ctypes.addressof(before), at, numbers.taken, places, numbers.written) != numbers.written:
+            raise RuntimeError("the library says of other events where they end")
+        return list(zip(chain.from_iterable(parts), (start + end for end in self._ends[: numbers.written])))
 
     def _parts(self, records, room):
         """The events of one call, in order: Puts that follow one another, and what stands before them and behind."""
@@ -293,10 +315,14 @@ class Events:
 
     The events say the same however the stream is cut, but for a text, which is cut where its piece ends. The end leads to none, so a
     last stream needs no `end()`. Threads may share one: a call waits for that of another.
+
+    With `ends=True` each is a pair of an event and where it ends: how many bytes of the piece, of a str in UTF-8, had come when it was
+    whole. A sequence ends with its final byte, and what is broken off with the byte that breaks it off. It takes longer.
     """
 
-    def __init__(self):
-        self._lock, self._feed = Lock(), _new_feed()
+    def __init__(self, ends=False):
+        self._lock, self._ends = Lock(), bool(ends)
+        self._feed = _new_feed(self._ends)
 
     def feed(self, piece):
         """The events of the piece that comes next, a list: a piece is a str, bytes, a bytearray or a memoryview."""
@@ -307,12 +333,12 @@ class Events:
     def end(self):
         """Ends the stream: what is begun leaves no event, and the next piece begins another stream."""
         with self._lock:
-            self._feed = _new_feed()
+            self._feed = _new_feed(self._ends)
 
 
-def _new_feed():
-    """What gives the events of the pieces of one stream, each as a list."""
-    if IS_COMPILED:
+def _new_feed(ends):
+    """What gives the events of the pieces of one stream, each as a list; where ends are asked for, pairs."""
+    if IS_COMPILED and not ends:
         return _CompiledReader(iter(()), *_REST).feed
-    reader = _Reader()
+    reader = _Reader(ends)
     return lambda piece: list(chain.from_iterable(reader.events(piece)))

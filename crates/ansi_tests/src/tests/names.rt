@@ -322,6 +322,7 @@ fn names_of_events(rt: HostRuntime) {
     };
     let mut events = [none; 4 * event_pieces::LEAST_EVENTS];
     let mut room = [0; 2 * event_pieces::LEAST_ROOM];
+    let before = state;
     let fed = event_pieces::feed(&mut state, b"\x1B[31mx\x07", &mut events, &mut room);
     assert!(rt;
         fed == Some(event_pieces::Fed {
@@ -342,6 +343,14 @@ fn names_of_events(rt: HostRuntime) {
         event_pieces::ESC,
     ];
     assert_eq!(rt; others.len(), 4);
+    let mut ends = [0; 4];
+    assert_eq!(rt;
+        event_pieces::find_ends(&before, b"\x1B[31mx\x07", &mut ends),
+        3
+    );
+    assert_eq!(rt; ends, [5, 6, 7, 0]);
+    assert!(rt; !event_pieces::may_be_cut(&events[0], &room));
+    event_pieces::laws::ends();
     event_pieces::laws::events_joined();
     event_pieces::laws::equality();
     event_pieces::laws::clones();

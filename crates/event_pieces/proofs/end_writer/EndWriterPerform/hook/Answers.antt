@@ -1,0 +1,6 @@
+-- The call is noted.
+use Rattle.std.proofs.Common.{refl}
+use Rattle.event_pieces.proofs.end_writer.EndWriterPerform.hook.Goals as goal
+
+pub returns : goal.returns
+returns c = c.note.ensures _ refl

@@ -16,10 +16,10 @@ answering_send : IsSend (answering.the_field).row
 answering_send =
     struct_send (shape answering.the_type) (
       screen_send,
-      (links_send.the_send, (asked_send.the_send, (theme_send.the_send, (request_send.the_send, (waiting_send.the_send, tt))))),
+      (links_send.the_send, (asked_send.the_field_send, (theme_send.the_field_send, (request_send.the_field_send, (waiting_send.the_send, tt))))),
     )
 
 pub terminal_send : IsSend terminal.the_row
 terminal_send =
     let of = terminal.the_type in
-    recorded_send _ of.D of.to of.to_one (struct_send (shape of) (search (sendable, parser_send.the_field_send, utf8_send.the_send, utf8_send.the_field_send), (answering_send, tt)))
+    recorded_send _ of.D of.to of.to_one (struct_send (shape of) (search (sendable, parser_send.the_field_send, utf8_send.the_send), (answering_send, tt)))

@@ -14,14 +14,14 @@ pub returns : goal.returns
 returns c =
     let new = c.new-answering.ensures in
     let screen = c.new-answering.result.screen in
-    let is = ap (λ (t : Answering). t.screen) new ∙ c.in_ok-with_history.ensures in
+    let is = ap (λ (t : Answering). t.screen) new ∙ c.in_ok-screen.ensures in
     let asked = ap (λ (t : Answering). t.asked) new in
     let room = ap (λ (s : State). s.display.history) is in record {
       stands = record {
         shows = ([], AreCalls-nil, with-own (unkept screen) (new_state c.args.columns c.args.rows) (new_state c.args.columns c.args.rows).display.shown (ap unkept is));
-        parser = c.new.ensures.stands;
+        parser = c.new-2.ensures.stands;
         history = ([], AreCalls-nil, room ∙ (sym (ap nothing_yet room) ∙ sym (with_left-none (nothing_yet screen.display.history))));
-        links = ([], AreCalls-nil, ap (λ (t : Answering). t.links) new ∙ c.in_ok-new.ensures);
+        links = ([], AreCalls-nil, ap (λ (t : Answering). t.links) new ∙ c.in_ok-links.ensures);
         asked = ([], AreCalls-nil, ap untold asked);
         request = ([], AreCalls-nil, ap (λ (t : Answering). t.request) new);
       };

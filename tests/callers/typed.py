@@ -106,6 +106,12 @@ stream.feed()  # wrong
 texts: List[Text] = stream.feed("a")  # wrong
 named("a")  # wrong
 ansi_proved.Events("a")  # wrong
+for each, end in ansi_proved.Events(ends=True).feed("a"):
+    end.bit_length()
+    if isinstance(each, ansi_proved.Osc):
+        print(each.may_be_cut, each.parts[0])
+for each, end in ansi_proved.Events().feed("a"):  # wrong
+    pass
 ansi_proved.events([b"a", "b"])
 ansi_proved.events(open("log", "rb"))
 ansi_proved.events(5)  # wrong

@@ -744,10 +744,7 @@ PROGRAMS = [
         ]
         + [Mode(["--no-hidden", "--fragment", *words], LEFT_OUT_ROWS[:4], LEFT_OUT_LINE, []) for words in ([], ["--urls", "--classes"])]
         + [Mode(["--no-hidden", *words], LEFT_OUT_ROWS[:4], LEFT_OUT_LINE, [], PAGE_HEAD, PAGE_TAIL, has_blocks=True) for words in ([], ["--urls"])]
-        + [
-            Mode(["--no-hidden", "--fragment", "--lines", *words], [("a line", LEFT_OUT_LINE[0], numbered(1, b"A\n"))], (LEFT_OUT_LINE[0], lambda number: numbered(number, b"A\n")), [])
-            for words in ([], ["--urls"])
-        ]
+        + [Mode(["--no-hidden", "--fragment", "--lines", *it], [("a line", LEFT_OUT_LINE[0], numbered(1, b"A\n"))], (LEFT_OUT_LINE[0], lambda n: numbered(n, b"A\n")), []) for it in ([], ["--urls"])]
         + [
             Mode(words, rows, (b"\x1b[mA<\n", b"A&lt;\n"), [], head, PAGE_TAIL, has_blocks=True)
             for words, rows, head in (

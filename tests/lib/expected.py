@@ -10,7 +10,7 @@ from lib.expected_shown import SHOWN_NARROW_ROWS, SHOWN_ROWS, SHOWN_USUAL_ROWS, 
 from lib.hostile_streams import BLOCK, SIZE, WHOLE, stream, text, times
 from lib.log_rows import BEGUN_ROWS, LINES_CUT, READ_ROWS, RETURN_ROWS
 from lib.modes import ROOM_SHOWN, Mode, Program
-from lib.refusals import PARSELOG_USAGE, refused_by, unknown, wants, wrong_size
+from lib.refusals import PARSELOG_USAGE, not_with_shown, refused_by, unknown, wants, wrong_size
 from lib.safe_rows import HIDDEN_ROWS, LEFT_OUT_ROWS, SAFE_LEFT_OUT_ROWS, SAFE_ROWS, SAFE_SHOWN_ROWS
 from lib.url_rows import URL_CUT, URL_ROWS, address
 
@@ -316,6 +316,8 @@ STRIP_ROWS = [
 
 # What --lf writes: of these rows CR LF alone is another text. As dos2unix does it, one CR goes before each LF, and of CR alone none.
 LINES_ROWS = [(name, given, text.replace(b"\r\n", b"\n")) for name, given, text in STRIP_ROWS] + RETURN_ROWS
+
+LEFT_OUT_LINE = b"\x1b[8mb\x1b[mA\n", b"A\n"
 
 STRIP_CUT = (b"\x1b[31mhi\x07\x1b[0m\n", [b""] * 6 + [b"h"] + [b"hi"] * 6 + [b"hi\n"])
 
@@ -646,17 +648,14 @@ PROGRAMS = [
         + [([word], wrong_size(b"ansi2text")) for word in ("--shown=", "--shown=1x1", "--shown=80", "--shown=80x1001", "--shown=80x2X4", "--shown==80x24")]
         + [(["--shown", "--shown=0x0"], wrong_size(b"ansi2text"))]
         + [(["--safe", "--shown=1x1"], wrong_size(b"ansi2text"))]
-        + [
-            (words, b"ansi2text: --no-hidden and --shown are not taken together (see ansi2text --help)")
-            for words in (["--no-hidden", "--shown"], ["--shown=9x9", "--safe", "--no-hidden"])
-        ]
+        + not_with_shown("ansi2text", "--no-hidden", ["--no-hidden", "--shown"], ["--shown=9x9", "--safe", "--no-hidden"])
         + [(["--shown", *words], wrong_size(b"ansi2text")) for words in (["1x1"], ["80x1001"], ["9x9", "--shown", "0x24"], ["99999999999999999999x1"])],
         [
             Mode([], STRIP_ROWS, (b"\x1b[1mA\n", b"A\n"), STRIP_HOSTILE, stays=True, cut=STRIP_CUT),
             Mode(["--lf"], LINES_ROWS, (b"\x1b[1mA\r\n", b"A\n"), STRIP_HOSTILE[:-1], cut=LINES_CUT),
             Mode(["--safe"], SAFE_ROWS + HIDDEN_ROWS, (b"\x1b[1mA<\r\n", b"A<\n"), []),
             Mode(["--lf", "--safe"], SAFE_ROWS + HIDDEN_ROWS, (b"\x1b[1mA<\r\n", b"A<\n"), []),
-            Mode(["--no-hidden"], STRIP_ROWS + LEFT_OUT_ROWS, (b"\x1b[8mb\x1b[mA\n", b"A\n"), STRIP_HOSTILE, stays=True, cut=STRIP_CUT),
+            Mode(["--no-hidden"], STRIP_ROWS + LEFT_OUT_ROWS, LEFT_OUT_LINE, STRIP_HOSTILE, stays=True, cut=STRIP_CUT),
             Mode(["--no-hidden", "--lf"], LINES_ROWS, (b"\x1b[8mb\x1b[mA\r\n", b"A\n"), [], cut=LINES_CUT),
             Mode(["--safe", "--no-hidden"], SAFE_ROWS + SAFE_LEFT_OUT_ROWS, (b"\x1b[8mb\x1b[mA<\r\n", b"A<\n"), []),
             Mode(["--shown"], SHOWN_USUAL_ROWS, (b"\x1b[1mA\n", b"A\n"), shown_hostile(100), stays=True, waits=True, room=ROOM_SHOWN),
@@ -688,18 +687,9 @@ PROGRAMS = [
         + [(["--page", word], wrong_size(b"ansi2html")) for word in ("--shown=", "--shown=1x1", "--shown=1001x24")]
         + [(["--stylesheet", "--shown=0x0"], wrong_size(b"ansi2html")), (["--shown", "1001x24", "--page"], wrong_size(b"ansi2html"))]
         + [(words, b"ansi2html: lines are those of one file, or of each page of a folder (see ansi2html --help)") for words in (["--lines", "a", "b"], ["-", "--lines", "--page", "-"])]
-        + [
-            (words, b"ansi2html: --lines and --shown are not taken together (see ansi2html --help)")
-            for words in (["--lines", "--shown"], ["--shown=9x9", "--page", "--lines"])
-        ]
-        + [
-            (words, b"ansi2html: --urls and --shown are not taken together (see ansi2html --help)")
-            for words in (["--urls", "--shown"], ["--shown=9x9", "--page", "--urls"])
-        ]
-        + [
-            (words, b"ansi2html: --no-hidden and --shown are not taken together (see ansi2html --help)")
-            for words in (["--no-hidden", "--shown"], ["--shown=9x9", "--fragment", "--no-hidden"])
-        ]
+        + not_with_shown("ansi2html", "--lines", ["--lines", "--shown"], ["--shown=9x9", "--page", "--lines"])
+        + not_with_shown("ansi2html", "--urls", ["--urls", "--shown"], ["--shown=9x9", "--page", "--urls"])
+        + not_with_shown("ansi2html", "--no-hidden", ["--no-hidden", "--shown"], ["--shown=9x9", "--fragment", "--no-hidden"])
         + [
             (words, b"ansi2html: --fragment is not taken with --title, --css, --lang or --scroll (see ansi2html --help)")
             for words in (["--fragment", "--title=x"], ["--css", "a", "--fragment"], ["--page", "--lang=de", "--fragment"], ["--fragment", "--scroll"])
@@ -752,19 +742,9 @@ PROGRAMS = [
             ),
             Mode(["--urls", "--fragment", "--classes"], CLASS_ROWS, (b"A\n", b"A\n"), []),
         ]
-        + [
-            Mode(["--no-hidden", *words], LEFT_OUT_ROWS[:4], (b"\x1b[8mb\x1b[mA\n", b"A\n"), [], head, tail, has_blocks=head != b"")
-            for words, head, tail in (
-                (["--fragment"], b"", b""),
-                (["--fragment", "--urls", "--classes"], b"", b""),
-                ([], PAGE_HEAD, PAGE_TAIL),
-                (["--urls"], PAGE_HEAD, PAGE_TAIL),
-            )
-        ]
-        + [
-            Mode(["--no-hidden", "--fragment", "--lines", *words], [("a line", b"\x1b[8mb\x1b[ma\n", numbered(1, b"a\n"))], (b"\x1b[8mb\x1b[mA\n", lambda number: numbered(number, b"A\n")), [])
-            for words in ([], ["--urls"])
-        ]
+        + [Mode(["--no-hidden", "--fragment", *words], LEFT_OUT_ROWS[:4], LEFT_OUT_LINE, []) for words in ([], ["--urls", "--classes"])]
+        + [Mode(["--no-hidden", *words], LEFT_OUT_ROWS[:4], LEFT_OUT_LINE, [], PAGE_HEAD, PAGE_TAIL, has_blocks=True) for words in ([], ["--urls"])]
+        + [Mode(["--no-hidden", "--fragment", "--lines", *it], [("a line", LEFT_OUT_LINE[0], numbered(1, b"A\n"))], (LEFT_OUT_LINE[0], lambda n: numbered(n, b"A\n")), []) for it in ([], ["--urls"])]
         + [
             Mode(words, rows, (b"\x1b[mA<\n", b"A&lt;\n"), [], head, PAGE_TAIL, has_blocks=True)
             for words, rows, head in (

@@ -109,16 +109,16 @@ static void read_said(const struct sequence *sequence, struct typed *typed)
 }
 
 /* What is pasted, up to ESC [ 201 ~; 0 where that has not come. */
-static size_t read_paste(const unsigned char *bytes, size_t count, size_t at, struct typed *typed)
+static size_t read_paste(const unsigned char *bytes, size_t count, size_t start, struct typed *typed)
 {
-    size_t start = at;
+    const unsigned char *end, *past = bytes + count;
 
-    for (; at + 6 <= count; at++) {
-        if (memcmp(bytes + at, "\033[201~", 6) == 0) {
+    for (end = bytes + start; end < past && (end = memchr(end, 0x1B, (size_t)(past - end))) != NULL; end++) {
+        if (past - end >= 6 && memcmp(end, "\033[201~", 6) == 0) {
             typed->kind = TYPED_PASTE;
             typed->text = bytes + start;
-            typed->length = at - start;
-            return at + 6;
+            typed->length = (size_t)(end - typed->text);
+            return (size_t)(end + 6 - bytes);
         }
     }
     return 0;

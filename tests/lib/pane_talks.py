@@ -19,15 +19,15 @@ import twin
 
 MODE = re.compile(rb"\x1b\[\?([0-9;]+)([hl])")
 OWN = {"7", "25"}  # modes of the terminal that a pane sets and resets itself, and leaves on
-LONG = 200_000
-PIECES = 10
+LONG = 250_000
+PIECES = 30
 
 
 class Talk(Terminal):
     """A command in a pane, on a terminal that is one column wider and two rows higher."""
 
     def __init__(self, pane, columns, rows, command):
-        self.display, self.fed, self.rest = twin.Display(columns + 1, rows + 2), 0, b""
+        self.display, self.fed, self.rest, self.typed = twin.Display(columns + 1, rows + 2), 0, b"", 0
         self.decoder = codecs.getincrementaldecoder("utf-8")()
         super().__init__([pane, str(columns), str(rows), *command], columns + 1, rows + 2)
 
@@ -53,7 +53,8 @@ class Talk(Terminal):
 
     def type(self, typed):
         while typed:
-            typed = typed[os.write(self.master, typed) :]
+            count = os.write(self.master, typed[:4096])
+            self.typed, typed = self.typed + count, typed[count:]
 
     def says(self, typed, wanted):
         """Types, and says what shows where it comes to be another text."""
@@ -152,15 +153,16 @@ def escape_cases(pane):
     yield "however late that comes", talk.says("\x1b[201~", "ready^[[A^[[^[[200~one^[[201~")
     talk.end()
     talk, _ = reader(pane, "\x1b[?1h")
-    for _ in range(PIECES):  # (those of one of them may come late, where the machine is busy)
-        before = talk.rows()[0]
-        for piece in ("\x1b", "[", "D"):
-            talk.type(piece.encode())
+    shown = lambda: "".join(talk.rows())
+    for _ in range(PIECES):  # (where the machine is busy, a piece can come late)
+        before = len(shown())
+        for piece in (b"\x1b", b"[D"):
+            talk.type(piece)
             time.sleep(0.003)
-        talk.until(lambda: talk.rows()[0][len(before) :] in ("^[OD", "^[[D"))
-        if talk.rows()[0].endswith("^[OD"):
+        talk.until(lambda: shown()[before:] in ("^[OD", "^[[D"))
+        if shown().endswith("^[OD"):
             break
-    yield "a key that comes in pieces is one", None if talk.rows()[0].endswith("^[OD") else "it shows %r" % talk.rows()
+    yield "a key that comes in pieces is one", None if shown().endswith("^[OD") else "it shows %r" % talk.rows()
     talk.end()
 
 
@@ -190,9 +192,20 @@ def answer_cases(pane):
     talk.end()
 
 
+def ends_with(talk, wanted):
+    """Ends it by a line, and says what its end does not write once of titles and shapes."""
+    before = len(talk.written)
+    talk.type(b"\n")
+    talk.has_ended()
+    found = re.findall(rb"\x1b\[23;2t|\x1b\[\d q|\x1b\]2;.*?\x1b\\", talk.written[before:])
+    talk.end()
+    return None if found == wanted else "it writes %s" % found
+
+
 def told_cases(pane):
     """What shows outside of the pane: the title, the bell and the cursor's shape; and what is undone at the end."""
     asks = r'stty raw -echo; printf "\033]2;one\007\007\033[4 q"; printf ready; read line; printf "\033]0;two\033\\\\ready"; read line'
+    takes_back = asks + r'; printf "\033]2;\033\\\\ready"; read line'
     talk = Talk(pane, 30, 3, ["sh", "-c", asks])
     talk.until(lambda: talk.rows() == ["ready"])
     found = [talk.written.count(it) for it in (b"\x1b[22;2t\x1b]2;one\x1b\\", b"\a", b"\x1b[4 q")]
@@ -202,31 +215,38 @@ def told_cases(pane):
     talk.until(lambda: talk.rows() == ["readyready"])
     found = [talk.written[before:].count(it) for it in (b"\x1b]2;two\x1b\\", b"\x1b[22;2t", b"\a", b" q")]
     yield "the next title too, and nothing else again", None if found == [1, 0, 0, 0] else "they are written %s times" % found
-    before = len(talk.written)
-    talk.type(b"\n")
-    talk.has_ended()
-    found = [talk.written[before:].count(it) for it in (b"\x1b[23;2t", b"\x1b[0 q")]
-    yield "its end takes back title and shape", None if found == [1, 1] else "they are written %s times" % found
-    talk.end()
+    yield "its end takes back title and shape", ends_with(talk, [b"\x1b[23;2t", b"\x1b[0 q"])
+    talk = Talk(pane, 30, 3, ["sh", "-c", takes_back])
+    for shown in ("ready", "readyready", "readyreadyready"):
+        talk.until(lambda: talk.rows() == [shown])
+        talk.type(b"\n" * (shown != "readyreadyready"))
+    found = [talk.written.count(it) for it in (b"\x1b[23;2t", b"\x1b]2;\x1b\\")]
+    yield "without a title the terminal has its own", None if found == [1, 0] else "they are written %s times" % found
+    yield "and its end takes back the shape", ends_with(talk, [b"\x1b[0 q"])
 
 
 def queue_cases(pane):
-    """A command that does not read, to which more is typed than its terminal holds, and which then writes more than that."""
-    script = 'stty raw -echo; printf ready; until [ -e "$0" ]; do sleep 0.01; done; seq 20000; printf "\\033[2J\\033[H"; head -c %d | cksum' % LONG
-    typed = "".join("%d " % it for it in range(LONG))[:LONG].encode()
-    with tempfile.TemporaryDirectory() as room:
-        talk = Talk(pane, 30, 3, ["sh", "-c", script, room + "/go"])
-        talk.until(lambda: talk.rows() == ["ready"])
-        other = threading.Thread(target=talk.type, args=[typed], daemon=True)
-        other.start()
-        other.join(0.3)  # (then the pane takes no more, or waits)
-        open(room + "/go", "w").close()
-        is_so = talk.until(lambda: len(talk.rows()) == 1 and talk.rows()[0].endswith(" %d" % LONG))
-    yield "a command that does not read does not stop the pane", None if is_so else "it shows %r" % talk.rows()
-    talk.has_ended()
-    wanted = run(["cksum"], typed).stdout.decode().split("\n")[0]
-    yield "and reads all of it later", None if talk.rows() == [wanted] else "it shows %r, and not %s" % (talk.rows(), wanted)
-    talk.end()
+    """A command that does not read, to which more is typed or pasted than its terminal holds, and which then writes more than that."""
+    script = 'stty raw -echo; printf ready; until [ -e "$0" ]; do sleep 0.01; done; seq 14000; printf "\\033[2J\\033[H"; head -c %d | cksum' % LONG
+    text = "".join("%d " % it for it in range(LONG))[:LONG].encode()
+    wanted = run(["cksum"], text).stdout.decode().split("\n")[0]
+    for name, typed, is_bounded in ("is typed", text, True), ("is pasted", b"\x1b[200~" + text + b"\x1b[201~", False):
+        with tempfile.TemporaryDirectory() as room:
+            talk = Talk(pane, 30, 3, ["sh", "-c", script, room + "/go"])
+            talk.until(lambda: talk.rows() == ["ready"])
+            other = threading.Thread(target=talk.type, args=[typed], daemon=True)
+            other.start()
+            before = -1
+            while talk.typed > before:  # (until nothing more is taken)
+                before = talk.typed
+                other.join(0.2)
+            is_held = other.is_alive()
+            open(room + "/go", "w").close()
+            talk.until(lambda: talk.program.poll() is not None)
+        yield "what %s and not read does not stop the pane, and is read later" % name, None if talk.rows() == [wanted] else "it shows %r" % talk.rows()
+        if is_bounded:
+            yield "and not all of it is taken before", None if is_held else "it is"
+        talk.end()
 
 
 def cases(pane):

@@ -117,6 +117,7 @@ OF_TMUX = [
     ("CPR|stream", "it counts from the first row in origin mode", lambda data, theirs, ours: b"\x1b[?6h" in data and rowless(theirs) == rowless(ours)),
     ("size", "3.3a tells columns before rows", lambda _, theirs, ours: [theirs] == [b"\x1b[8;%d;%dt" % it for it in (SIZE, RECORDED) if sized(it) == ours]),
     ("OSC 4;(9|200)", "3.3a tells the first eight colours", lambda _, theirs, ours: theirs == b"" and ours),
+    ("OSC 1[01].*", "3.3a forgets it by OSC 104", lambda data, theirs, ours: b"\x1b]104\x07" in data and theirs == b"" and COLOR.fullmatch(ours)),
     ("OSC 4.*", "3.3a leaves the number out", lambda _, theirs, ours: theirs and theirs == re.sub(rb"\]4;\d+;", b"]4;", ours)),
 ]
 DIFFERENCES = {"xterm": BOTH + OF_XTERM, "tmux": BOTH + OF_TMUX}
@@ -191,7 +192,8 @@ def opened(kind, folder, size):
         terminal = terminals.Tmux(folder, *size)
         return Asked(terminal, terminal.stream, terminal.answers, b"\x18\x1b\\" + COLORLESS + b"\x1b[?1049l\x1bc\x1b[4l\x1b[2J\x1b[H")
     terminal = Xterm(folder, *size)
-    return Asked(terminal, terminal.terminal, terminal.terminal, CANCEL + COLORLESS + b"\x1b[!p\x1b[?1007;1049l\x1bc\x1b[H")
+    # (its alternate screen keeps what ESC 7 saved)
+    return Asked(terminal, terminal.terminal, terminal.terminal, CANCEL + COLORLESS + b"\x1b[!p\x1b[?1007;1049l\x1b[?1049h\x1b[m\x1b[H\x1b7\x1b[?1049l\x1bc\x1b[H")
 
 
 def answers_here(size, colors, data):

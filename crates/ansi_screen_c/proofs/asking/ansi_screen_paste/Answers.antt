@@ -1,5 +1,5 @@
 -- What was held is read, of a text that has these bytes.
-use Rattle.std.proofs.Common.{◌≡◌, ℕ, List, inr, subst}
+use Rattle.std.proofs.Common.{ℕ, List, inr, subst}
 use Rattle.std.specs.Prelude.{Some, IfOk, IfErr}
 use Rattle.std.proofs.lemmas.Result.{IfErr-weaker}
 use Rattle.screen_pieces.specs.Telling.{paste_told}

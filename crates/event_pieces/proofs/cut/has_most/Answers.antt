@@ -13,7 +13,7 @@ returns-then-separators-ge-MOST_PARTS c =
     let parts = length-slice_split (λ b. b == semicolon) text in
     record {
       many = λ e. inl (omega (arith, parts, c.separators-separators.ensures, c.if-separators-ge-MOST_PARTS.true));
-      few = λ e. absurd (true≢false (sym (le-leb 16 (separators + 1) (omega (arith, c.if-separators-ge-MOST_PARTS.true))) ∙ e));
+      few = λ e. absurd (true≢false (sym (le-leb _ _ (omega (arith, c.if-separators-ge-MOST_PARTS.true))) ∙ e));
     }
 
 pub returns-else-separators-ge-MOST_PARTS : goal.returns-else-separators-ge-MOST_PARTS
@@ -23,9 +23,9 @@ returns-else-separators-ge-MOST_PARTS c =
     let parts = length-slice_split (λ b. b == semicolon) text in
     let counted = parts-counted text in
     record {
-      many = λ e. inr (omega (arith, parts, counted, c.separators-separators.ensures, leb-true 1024 left e));
+      many = λ e. inr (omega (arith, parts, counted, c.separators-separators.ensures, leb-true _ _ e));
       few = λ e. (
         omega (arith, parts, c.separators-separators.ensures, c.if-separators-ge-MOST_PARTS.false),
-        omega (arith, parts, counted, c.separators-separators.ensures, leb-false 1024 left e),
+        omega (arith, parts, counted, c.separators-separators.ensures, leb-false _ _ e),
       );
     }

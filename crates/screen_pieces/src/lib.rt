@@ -20,8 +20,8 @@ mod telling;
 mod terminal;
 mod text;
 
-pub use answers::{RgbBytes, ThemeBytes};
 pub use ansi_style::bytes::{ColorBytes, StyleBytes};
+pub use answers::{RgbBytes, ThemeBytes};
 pub use cell::CellBytes;
 pub use keys::{KeyBytes, MouseBytes};
 pub use modes::{ModeBytes, RESERVED_MODES};

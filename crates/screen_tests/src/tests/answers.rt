@@ -12,7 +12,12 @@ fn shown(alloc: Global, stream: &[u8]) -> Result<Terminal, AllocError> {
 }
 
 /// The answers, in six bytes of room.
-fn assert_answers(rt: &impl Abort, terminal: &mut Terminal, wanted: Result<(usize, bool), usize>, bytes: [u8; 6]) {
+fn assert_answers(
+    rt: &impl Abort,
+    terminal: &mut Terminal,
+    wanted: Result<(usize, bool), usize>,
+    bytes: [u8; 6],
+) {
     let mut room = [0; 6];
     let answer = terminal.answers(&mut room);
     assert_same(rt, &answer, &wanted);

@@ -6,6 +6,7 @@ mod history;
 mod html;
 mod leaving;
 mod page;
+mod parts;
 mod safe_shown;
 mod same;
 mod screen;

@@ -39,7 +39,7 @@ calls-more before piece calls all are more =
     AreCalls-only (before ++ piece) all (machine_calls decoded (before ++ piece) (new_machine [])) more (AreCalls-machine (before ++ piece))
     ∙ (machine_calls-append decoded before piece (new_machine [])
     ∙ ap (λ (l : List Call). l ++ machine_calls decoded piece (machine_after decoded before (new_machine [])))
-        (AreCalls-only before (machine_calls decoded before (new_machine [])) calls (AreCalls-machine before) are))
+    (AreCalls-only before (machine_calls decoded before (new_machine [])) calls (AreCalls-machine before) are))
 
 added-few : (before piece : List ℕ) → length (added before piece) ≤ 2 * length piece
 unfolding added

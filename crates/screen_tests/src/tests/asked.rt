@@ -18,7 +18,7 @@ fn title(terminal: &Terminal) -> Put<4> {
 }
 
 /// The cursor key up with Control, in seven bytes of room.
-fn up(terminal: &Terminal, alloc: Global) -> Put<7> {
+fn up(terminal: &Terminal) -> Put<7> {
     let key = KeyBytes {
         character: 0,
         shifted: 0,
@@ -28,12 +28,12 @@ fn up(terminal: &Terminal, alloc: Global) -> Put<7> {
         reserved: 0,
     };
     let mut room = [0; 7];
-    let answer = terminal.key(alloc, key, &mut room);
+    let answer = terminal.key(key, &mut room);
     (answer, room)
 }
 
 /// The right button at the last column and row of a byte, in six bytes of room.
-fn right(terminal: &Terminal, alloc: Global) -> Put<6> {
+fn right(terminal: &Terminal) -> Put<6> {
     let mouse = MouseBytes {
         column: 222,
         row: 222,
@@ -45,21 +45,21 @@ fn right(terminal: &Terminal, alloc: Global) -> Put<6> {
         reserved: 0,
     };
     let mut room = [0; 6];
-    let answer = terminal.mouse(alloc, mouse, &mut room);
+    let answer = terminal.mouse(mouse, &mut room);
     (answer, room)
 }
 
 /// A paste, in thirteen bytes of room.
-fn paste(terminal: &Terminal, alloc: Global) -> Put<13> {
+fn paste(terminal: &Terminal) -> Put<13> {
     let mut room = [0; 13];
-    let answer = terminal.paste(alloc, "\x1Ba", &mut room);
+    let answer = terminal.paste("\x1Ba", &mut room);
     (answer, room)
 }
 
 /// That the focus is gone, in three bytes of room.
-fn focus(terminal: &Terminal, alloc: Global) -> Put<3> {
+fn focus(terminal: &Terminal) -> Put<3> {
     let mut room = [0; 3];
-    let answer = terminal.focus(alloc, false, &mut room);
+    let answer = terminal.focus(false, &mut room);
     (answer, room)
 }
 
@@ -71,24 +71,16 @@ fn assert_title(rt: &impl Abort, terminal: &Terminal, wanted: Put<4>) {
     assert_same(rt, &title(terminal), &wanted);
 }
 
-fn assert_nothing(rt: &(impl Abort + AllocGlobal), terminal: &Terminal) {
-    assert_same(rt, &right(terminal, rt.alloc()), &(Ok(0), [0; 6]));
-    assert_same(rt, &focus(terminal, rt.alloc()), &(Ok(0), [0; 3]));
+fn assert_nothing(rt: &impl Abort, terminal: &Terminal) {
+    assert_same(rt, &right(terminal), &(Ok(0), [0; 6]));
+    assert_same(rt, &focus(terminal), &(Ok(0), [0; 3]));
 }
 
-fn assert_read(rt: &(impl Abort + AllocGlobal), terminal: &Terminal) {
-    assert_same(rt, &up(terminal, rt.alloc()), &(Ok(6), *b"\x1B[1;5A\0"));
-    assert_same(
-        rt,
-        &right(terminal, rt.alloc()),
-        &(Ok(6), *b"\x1B[M\x22\xFF\xFF"),
-    );
-    assert_same(
-        rt,
-        &paste(terminal, rt.alloc()),
-        &(Ok(13), *b"\x1B[200~a\x1B[201~"),
-    );
-    assert_same(rt, &focus(terminal, rt.alloc()), &(Ok(3), *b"\x1B[O"));
+fn assert_read(rt: &impl Abort, terminal: &Terminal) {
+    assert_same(rt, &up(terminal), &(Ok(6), *b"\x1B[1;5A\0"));
+    assert_same(rt, &right(terminal), &(Ok(6), *b"\x1B[M\x22\xFF\xFF"));
+    assert_same(rt, &paste(terminal), &(Ok(13), *b"\x1B[200~a\x1B[201~"));
+    assert_same(rt, &focus(terminal), &(Ok(3), *b"\x1B[O"));
 }
 
 // DECCKM does not count where Control is held.

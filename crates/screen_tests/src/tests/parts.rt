@@ -6,6 +6,7 @@ use screen_pieces::{CellBytes, PlaceBytes, RESERVED_PLACE, StyleBytes, Terminal,
 use std::alloc::{AllocError, AllocGlobal, Global};
 use std::process::Abort;
 use std::test::Fail;
+use xterm_palette::indexed;
 
 fn shown(alloc: Global, stream: &[u8]) -> Result<Terminal, AllocError> {
     Ok(fed(Terminal::new(alloc, 10, 6)?, stream))
@@ -116,5 +117,6 @@ fn colors(rt: HostRuntime) -> Result<(), Fail> {
     assert_color(&rt, 196, rgb(0xFF, 0, 0));
     assert_color(&rt, 110, rgb(0x87, 0xAF, 0xD7));
     assert_color(&rt, 244, rgb(0x80, 0x80, 0x80));
+    assert_same(&rt, &indexed(110), &0x87AFD7);
     Ok(())
 }

@@ -655,7 +655,8 @@ PROGRAMS = [
             Mode(["--lf"], LINES_ROWS, (b"\x1b[1mA\r\n", b"A\n"), STRIP_HOSTILE[:-1], cut=LINES_CUT),
             Mode(["--safe"], SAFE_ROWS + HIDDEN_ROWS, (b"\x1b[1mA<\r\n", b"A<\n"), []),
             Mode(["--lf", "--safe"], SAFE_ROWS + HIDDEN_ROWS, (b"\x1b[1mA<\r\n", b"A<\n"), []),
-            Mode(["--no-hidden"], STRIP_ROWS + LEFT_OUT_ROWS, LEFT_OUT_LINE, STRIP_HOSTILE, stays=True, cut=STRIP_CUT),
+            # (random bytes hide some text)
+            Mode(["--no-hidden"], STRIP_ROWS + LEFT_OUT_ROWS, LEFT_OUT_LINE, STRIP_HOSTILE[:-1], stays=True, cut=STRIP_CUT),
             Mode(["--no-hidden", "--lf"], LINES_ROWS, (b"\x1b[8mb\x1b[mA\r\n", b"A\n"), [], cut=LINES_CUT),
             Mode(["--safe", "--no-hidden"], SAFE_ROWS + SAFE_LEFT_OUT_ROWS, (b"\x1b[8mb\x1b[mA<\r\n", b"A<\n"), []),
             Mode(["--shown"], SHOWN_USUAL_ROWS, (b"\x1b[1mA\n", b"A\n"), shown_hostile(100), stays=True, waits=True, room=ROOM_SHOWN),

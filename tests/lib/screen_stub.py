@@ -61,9 +61,14 @@ def public(told):
     return sorted(found, key=lambda it: it.name == "close")
 
 
+def kept(told):
+    """The attributes of a class that is told, each with its type."""
+    return {it.target.id: it.annotation for it in told.body if isinstance(it, ast.AnnAssign)}
+
+
 def function_cases(of, told):
     """What a class has, and what its functions are given."""
-    wrong = {name for name in vars(of) if not name.startswith("_")} ^ {it.name for it in public(told)}
+    wrong = {name for name in vars(of) if not name.startswith("_")} ^ {it.name for it in public(told)} ^ set(kept(told))
     yield "Python: types are told of all that a %s has" % told.name, "not so of %s" % sorted(wrong) if wrong else None
     for it in public(told):
         name, has = "%s.%s" % (told.name, it.name), getattr(of, it.name, None)
@@ -79,6 +84,8 @@ def answer_cases(module, told):
     """What the functions of a screen give."""
     screen = module.Screen(3, 2)
     screen.feed("\x1b[1;38;5;9mx")
+    for name, kind in kept(told).items():
+        yield "Python: what Screen.%s is" % name, None if fits(getattr(screen, name), kind) else "it is %r" % getattr(screen, name)
     for it in public(told):
         value = getattr(screen, it.name)
         value = value(*given_to(module, it)) if callable(value) else value

@@ -35,17 +35,24 @@ unsafe extern "C" {
 /// A colour by its red, green and blue.
 #[derive(Debug, Clone, Copy, PartialEq, Eq, Hash)]
 pub struct Rgb {
+    /// Its red.
     pub red: u8,
+    /// Its green.
     pub green: u8,
+    /// Its blue.
     pub blue: u8,
 }
 
 /// The terminal's own colours, each told or not.
 #[derive(Debug, Clone, PartialEq, Eq)]
 pub struct Colors {
+    /// That of text.
     pub foreground: Option<Rgb>,
+    /// That behind it.
     pub background: Option<Rgb>,
+    /// That of the cursor.
     pub cursor: Option<Rgb>,
+    /// Those that have a number.
     pub palette: [Option<Rgb>; 256],
 }
 

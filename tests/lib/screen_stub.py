@@ -63,7 +63,8 @@ def public(told):
 
 def kept(told):
     """The attributes of a class that is told, each with its type."""
-    return {it.target.id: it.annotation for it in told.body if isinstance(it, ast.AnnAssign)}
+    found = {it.target.id: it.annotation for it in told.body if isinstance(it, ast.AnnAssign)}
+    return {name: kind for name, kind in found.items() if not name.startswith("_")}
 
 
 def function_cases(of, told):

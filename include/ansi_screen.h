@@ -362,8 +362,9 @@ bool ansi_screen_update(ansi_screen *shown, ansi_screen *wanted, unsigned char *
 /* What the screen shows as HTML, which a page has after `<pre>` and a newline: each character in the style of its cell, and in
  * its link, unless that can't pay, as ansi2html(1) has it of --shown; a row that goes on and the next one are one line, and what
  * was never printed at the end of a row and of the screen is left out. As long as no row has left, that is what ansi2html(1)
- * writes with --fragment --shown on this size of a stream in UTF-8 that has CR LF between its lines, and no BEL in a string APC, PM
- * or SOS; but for the main screen, which this leaves out where the alternate one shows. `styling` is 0 for light and dark pages,
+ * writes with --fragment --shown on this size of a stream in UTF-8 that has CR LF between its lines, no BEL in a string APC, PM
+ * or SOS, and no byte 9C in such a one or in a device control string; but for the main screen, which this leaves out where the
+ * alternate one shows. `styling` is 0 for light and dark pages,
  * 1 for light ones, 2 for dark ones, and 3 for classes in place of styles, as in ansi_html.h; any other number is 0. */
 bool ansi_screen_html(ansi_screen *screen, unsigned char styling, unsigned char *room, size_t size, size_t *written);
 

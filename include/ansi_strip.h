@@ -4,10 +4,10 @@
  * carriage return (0D), inside an escape or control sequence too. Such sequences, titles, the targets of links,
  * device control strings with all that is in them and the other controls below 20 leave nothing.
  * DEL (7F) and the characters U+0080 to U+009F, which some terminals take for controls, leave nothing either.
- * A stream is read as a log: a character that is broken leaves U+FFFD, and so does each byte A0 to FF that belongs to
- * no character, outside of sequences and strings; and BEL ends a string APC, PM or SOS as it ends a title. So well-formed UTF-8 that has none of these
- * characters, and no control below 20 but those three, is left as it is. What is written is UTF-8, that of each call
- * by itself.
+ * A stream is read as a log: a character that is broken leaves U+FFFD, and so does each byte 80 to FF that belongs to
+ * no character, outside of sequences and strings; BEL ends a string APC, PM or SOS as it ends a title, and the byte 9C
+ * ends no string. So well-formed UTF-8 that has none of these characters, and no control below 20 but those three, is
+ * left as it is. What is written is UTF-8, that of each call by itself.
  *
  * A stream comes in pieces of any size, cut anywhere: what is left of it is the same. There is
  * nothing to allocate or to free, no input is refused, and no call fails but for a room of

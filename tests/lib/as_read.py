@@ -1,9 +1,10 @@
 """A log as a reader reads it, by the definition in crates/anstyle_parse/specs/Machine/AsRead.antt:
 
-    as_read(data)    A0..FF that belong to no character as U+FFFD, and BEL that ends a string APC, PM or SOS as 9C
+    as_read(data)    80..FF that belong to no character as U+FFFD, BEL that ends a string APC, PM or SOS as ESC \\, and 9C in
+                     such a string or in a device control string as 9D
     as_read_whole(data)    the same of a log that is at its end: a character that is begun there is broken off
-    ignored(data)    what has the text that a terminal reads in data, where such bytes and a character that is begun at the end
-                     are ignored; `stray` stands for each, breaks a character, and leaves nothing
+    ignored(data)    a log that is read as a terminal reads data, to which 80..9F at the ground are controls that do nothing here, 9C ends
+                     strings and BEL does not, and where other such bytes and a character that is begun at the end are ignored
 """
 
 REPLACEMENT = "\ufffd".encode()
@@ -15,13 +16,13 @@ NEXT = {
     "escape intermediate": [(bytes(range(0x30, 0x7F)), "ground")],
     "control": [(bytes(range(0x40, 0x7F)), "ground")],
     "command": [(b"\x07", "ground")],
-    "ignored": [(b"\x9c", "ground")],
+    "ignored": [],
     "device entry": [(bytes(range(0x20, 0x30)), "device intermediate"), (bytes(range(0x30, 0x40)), "device fields"),
                      (bytes(range(0x40, 0x7F)), "device string")],
     "device fields": [(bytes(range(0x20, 0x30)), "device intermediate"), (b"<=>?", "device string"),
                       (bytes(range(0x40, 0x7F)), "device string")],
     "device intermediate": [(bytes(range(0x30, 0x7F)), "device string")],
-    "device string": [(b"\x9c", "ground")],
+    "device string": [],
     "ground": [],
 }
 
@@ -44,9 +45,9 @@ def begins(front):
         return error.reason == "unexpected end of data", False
 
 
-def reading(data, stray=REPLACEMENT, bell=0x9C):
-    """What is read, and the front of a character that is begun at the end. `stray` stands for a byte that belongs to no character, and
-    `bell` for BEL in a string APC, PM or SOS."""
+def reading(data, stray=REPLACEMENT, ends=b"\x07", text=b"\x9c", as_text=b"\x9d"):
+    """What is read, and the front of a character that is begun at the end. `stray` stands for a byte that belongs to no character. A byte
+    of `ends` ends a string, and of `text` is text there, for which `as_text` stands. (BEL ends no device control string.)"""
     read, place, front = bytearray(), "ground", b""
     for byte in data:
         if front:
@@ -59,10 +60,14 @@ def reading(data, stray=REPLACEMENT, bell=0x9C):
         if place == "ground" and 0xC2 <= byte <= 0xF4:
             read.append(byte)
             front = bytes([byte])
-        elif place == "ground" and byte >= 0xA0:
+        elif place == "ground" and byte >= 0x80:
             read += stray
+        elif byte in ends and (place == "ignored" or (place == "device string" and byte != 0x07)):
+            read += b"\x1b\\"
+            place = "ground"
+        elif byte in text and place in ("ignored", "device string"):
+            read += as_text
         else:
-            byte = bell if place == "ignored" and byte == 0x07 else byte
             read.append(byte)
             place = after(place, byte)
     return bytes(read), front
@@ -77,7 +82,7 @@ def as_read_whole(data):
     return read[: len(read) - len(front)] + REPLACEMENT if front else read
 
 
-def ignored(data, stray=b"\0"):
+def ignored(data):
     # (00 breaks a character, and ends no string: no text or HTML has it)
-    read, front = reading(data, stray, 0x00)
+    read, front = reading(data, b"\0", b"\x9c", b"\x07", b"\0")
     return read[: len(read) - len(front)]

@@ -34,12 +34,12 @@ ZEROS = b";".join([b"0"] * 32)
 # Each lead byte but the last breaks the one before it; for who reads a log the last is broken off at the end.
 BROKEN = SIZE - 1
 # Of what the Rust crate's sources, with the byte that breaks a character handled again, make of
-# random_bytes: its lines, its canonical text, its stripped text. (That is without DEL and U+0080 to
-# U+009F: made of the lines by a few lines of Python, which with these make the text of those sources; since it is that of
-# what a reader reads, of tests/lib/as_read.py's text of these bytes.)
+# random_bytes: its lines, its canonical text. And the stripped text of what a reader reads, without DEL and U+0080 to U+009F: made of
+# tests/lib/as_read.py's text of these bytes by a few lines of Python, and by a page of C, which with the rules of a terminal made the
+# text of those sources.
 LOG_DIGEST = "5c1b5f4578fd31fa299e2a1796cde637ca24e4d72537ed3385a279dda09c02a1"
 CANON_DIGEST = "c05a13fefff40f87c445126e531c1f2f69cfea6bcd5a64bc3b0ba643cc09c535"
-STRIP_DIGEST = "7cc7a6e916345efa0f55c3ec8df202a44ef2b97e796922ad04bd50309c9db70b"
+STRIP_DIGEST = "6c932239a664cfcff2bc8111408f9ea7b88cf57c42cecc159151b3f3eb18d745"
 
 
 def lines(*them):
@@ -285,10 +285,10 @@ CANON_HOSTILE = [
 STRIP_ROWS = [
     ("colours and a bell", b"\x1b[31mhi\x07\x1b[0m\n", b"hi\n"),
     ("an operating system command", b"\x1b]0;x\x07a\r\n", b"a\r\n"),
-    ("a device control string", b"\x1bPqA\x9cB", b"B"),
+    ("a device control string", b"\x1bPqA\x1b\\B", b"B"),
     ("a control in a control sequence", b"\x1b[1\nm", b"\n"),
     ("a tab, and a vertical one", b"\ta\vb", b"\tab"),
-    ("7F, and controls above it", b"\x7f\x80\x9c\xc2\x80", b""),
+    ("7F, bytes above it, and U+0080", b"\x7f\x80\x9c\xc2\x80", b"\xef\xbf\xbd\xef\xbf\xbd"),
     ("U+009B, which terminals take for a control", b"\xc2\x9bc", b"c"),
     ("U+0080 to U+00A0, with 7E to 7F", "a~\x7f\x80\x9f\xa0b".encode(), b"a~\xc2\xa0b"),
     ("U+009D and U+009C around a title", "\x9d0;t\x9ca".encode(), b"0;ta"),
@@ -304,7 +304,7 @@ STRIP_ROWS = [
     ("bytes that begin no character", b"a\xff\xc0b", b"a\xef\xbf\xbd\xef\xbf\xbdb"),
     ("a link", b"\x1b]8;;http://a/\x1b\\link\x1b]8;;\x1b\\!", b"link!"),
     ("layout in a device control string", b"\x1bPq\n\t\rA", b""),
-    ("strings of no call", b"\x1b_a\x9c\x1b^b\x9c\x1bXc\x9cd", b"d"),
+    ("strings of no call", b"\x1b_a\x1b\\\x1b^b\x1b\\\x1bXc\x1b\\d", b"d"),
     ("escape sequences", b"\x1b(B\x1b7\x1bM.", b"."),
     ("an unfinished sequence", b"text\x1b[3", b"text"),
     ("a character broken by a command", b"\xe2\x82\x1b]0;x\x07\n", b"\xef\xbf\xbd\n"),
@@ -386,7 +386,7 @@ def html_rows(scheme):
         ("references", b"&amp;&#60;", b"&amp;amp;&amp;#60;"),
         ("characters", "n\u00e4\u00efve \u20ac \U0001f600".encode(), "n\u00e4\u00efve \u20ac \U0001f600".encode()),
         ("a character broken by markup", b"\xc3<b", "\ufffd&lt;b".encode()),
-        ("bytes that begin no character", b"\xffa\x80\x9bb", "\ufffdab".encode()),
+        ("bytes that begin no character", b"\xffa\x80\x9bb", "\ufffda\ufffd\ufffdb".encode()),
         *(row for row in READ_ROWS if b"\x1b[" not in row[1]),
         *BEGUN_ROWS,
         (
@@ -429,7 +429,7 @@ def html_rows(scheme):
         ("links of no text", b"\x1b]8;;http://a\x07\x1b]8;;\x07" + linked(b"http://b", b"\x1b[1m"), b""),
         ("a title in a link", linked(b"http://a", b"x\x1b]0;t\x07y"), link(b"http://a", b"", b"xy")),
         ("a carriage return in a link", linked(b"http://a", b"a\rb"), link(b"http://a", b"", b"a&#13;<br>b")),
-        ("markup in strings", b"\x1bPq<b>\x1b\\\x1b_<b>\x9c\x1b[2J\x1b[?25lx", b"x"),
+        ("markup in strings", b"\x1bPq<b>\x1b\\\x1b_<b>\x1b\\\x1b[2J\x1b[?25lx", b"x"),
         ("bold, and no more", b"\x1b[1mb\x1b[m.", span(b"font-weight:bold;", b"b") + b"."),
         ("bold to the end", b"\x1b[1mb", span(b"font-weight:bold;", b"b")),
         ("styles of no text", b"\x1b[1m\x1b[m\x1b[1m", b""),

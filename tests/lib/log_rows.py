@@ -11,15 +11,21 @@ STAMPED = b"".join(STAMP % at + line + b"\n" for at, line in enumerate((b"~~~ Ru
 READ_ROWS = [
     ("Latin-1", b"M\xfcller\n", b"M" + REPLACED + b"ller\n"),
     ("a pound sign of Latin-1", b"\xa3 5\n", REPLACED + b" 5\n"),
-    ("each byte of A0 to FF alone", b"x".join(bytes([it]) for it in range(0xA0, 0x100)) + b"\n", b"x".join([REPLACED] * 96) + b"\n"),
+    ("each byte of 80 to FF alone", b"x".join(bytes([it]) for it in range(0x80, 0x100)) + b"\n", b"x".join([REPLACED] * 128) + b"\n"),
+    ("Windows-1252", b"\x93quoted\x94 \x80 5\n", REPLACED + b"quoted" + REPLACED + b" " + REPLACED + b" 5\n"),
+    ("a surrogate", b"a\xed\xa0\x80b\n", b"a" + 3 * REPLACED + b"b\n"),
     ("a byte of Latin-1 among characters", "é".encode() + b"\xe4" + "é€😀".encode() + b"\n", "é\ufffdé€😀\n".encode()),
     ("a character that a byte of none breaks", b"\xe2\x82\xff\xf0\x9f\xa0\xc0\n", REPLACED * 4 + b"\n"),
     ("bytes of none behind sequences", b"\x1b[1m\xe4\x1b[m\xa0\x1b(B\xff\n", REPLACED * 3 + b"\n"),
-    ("bytes of none in sequences and strings", b"\x1b]0;\xe4\xff\x07a\x1b_\xa0\xff\x07b\x1bP1q\xc0\x9cc\x1b[\xa01md\x1b\xff7e\n", b"abcde\n"),
+    ("bytes of none in sequences and strings", b"\x1b]0;\xe4\xff\x07a\x1b_\xa0\xff\x07b\x1bP1q\xc0\x9c\x1b\\c\x1b[\xa01md\x1b\xff7e\n", b"abcde\n"),
     ("four lines with stamps", STAMPED, b"~~~ Running make\n$ make\nok\ndone\n"),
     ("BEL that ends PM and SOS", b"\x1b^a\x07b\x1bXc\x07d\n", b"bd\n"),
-    ("ST after it, and the other ends", b"\x1b_a\x07b\x1b\\c\x1b_d\x1b\\e\x1b_f\x9cg\n", b"bceg\n"),
-    ("BEL in a device control string", b"\x1bPq\x07a\x9cb\n", b"b\n"),
+    ("ST after it, and the other ends", b"\x1b_a\x07b\x1b\\c\x1b_d\x1b\\e\x1b_f\x18g\n", b"bceg\n"),
+    ("BEL in a device control string", b"\x1bPq\x07a\x1b\\b\n", b"b\n"),
+    ("a check mark in APC", "x\x1b_G\u2713 left\x1b\\y\n".encode(), b"xy\n"),
+    ("in PM, SOS and a hooked string", "a\x1b^\u2713b\x07c\x1bX\u2713d\x07e\x1bPq\u2713f\x1b\\g\n".encode(), b"aceg\n"),
+    ("in strings that are ignored", "a\x1bP1<q\u2713b\x1b\\c\x1bP \u2713qd\u2713\x1b\\e\n".encode(), b"ace\n"),
+    ("9C alone in strings", b"a\x1b_b\x9cc\x1b\\d\x1bPqe\x9cf\x18g\x1b]0;h\x9ci\x07j\n", b"adgj\n"),
 ]
 
 # at the end of a stream

@@ -26,7 +26,7 @@ SAFE_ROWS = rows(
     ("NUL, BEL, backspace and SUB", b"a\0b\x07c\x08d\x1ae", b"a<U+0000>b<U+0007>c<U+0008>d<U+001A>e"),
     ("DEL", b"rm\x7f\x7fls", b"rm<U+007F><U+007F>ls"),
     ("CSI and OSC as characters", "\u009b8mx\u009d0;t", "<U+009B>8mx<U+009D>0;t"),
-    ("a C1 control as a byte", b"a\x84b\x85", b"a<U+0084>b<U+0085>"),
+    ("a C1 control as a byte, which UTF-8 has not", b"a\x84b\x85", "a\ufffdb\ufffd"),
     ("sequences, a title and a device control string", b"\x1b[7ma\x1b]0;t\x07\x1bPq#\x1b\\b", b"ab"),
     ("a broken character", b"a\xe2\x80(", "a\ufffd("),
     # the order of text

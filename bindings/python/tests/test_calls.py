@@ -124,6 +124,7 @@ class Calls(unittest.TestCase):
 
     def test_logs(self):
         rows = [(b"M\xfcller \xa3 5\n", "M\ufffdller \ufffd 5\n"), (b"\x1b_bk;t=17\x07$ make", "$ make"), (b"\xe2\x82\xff\xc3", 3 * "\ufffd")]
+        rows += [(b"\x93quoted\x94 \x80 5", "\ufffdquoted\ufffd \ufffd 5"), ("x\x1b_G\u2713y\x1b\\z".encode(), "xz")]
         for stream, wanted in rows:
             wholes = ansi_proved.strip(stream), ansi_proved.strip(stream, safe=True), ansi_proved.to_html(stream)
             self.assertEqual(wholes, 3 * (wanted.encode(),))

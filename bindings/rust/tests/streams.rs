@@ -83,8 +83,10 @@ fn clean_text_is_not_copied() {
 /// Bytes of no character, a stamp that BEL ends, and half of a character at the end.
 #[test]
 fn logs() {
-    let rows: [(&[u8], &str); 3] = [
+    let rows: [(&[u8], &str); 5] = [
         (b"M\xfcller \xa3 5\n", "M\u{fffd}ller \u{fffd} 5\n"),
+        (b"\x93quoted\x94 \x80", "\u{fffd}quoted\u{fffd} \u{fffd}"),
+        ("x\x1b_G\u{2713}y\x1b\\z".as_bytes(), "xz"),
         (b"\x1b_bk;t=17\x07$ make", "$ make"),
         (b"\xe2\x82\xff\xc3", "\u{fffd}\u{fffd}\u{fffd}"),
     ];

@@ -1,4 +1,4 @@
--- How long the HTML of a log is, beside its bytes: U+FFFD is one unit, as any character.
+-- How long the HTML of a log is, beside its bytes: U+FFFD is one unit, as any character, and ESC \ none.
 use Rattle.std.proofs.Common.{◌≡◌, ◌≤◌, ℕ, ◌+◌, ◌*◌, false, List, [], ◌∷◌, ◌++◌, length, refl, ap, sym, ◌∙◌, arith, length-append, ⊎_elim}
 use Rattle.anstyle_parse.specs.Stream.Call.{Call}
 use Rattle.anstyle_parse.specs.Laws.Lighter.{IsLighter, AreLighter, AreEnough}
@@ -9,13 +9,15 @@ use Rattle.ansi_html.specs.Html.{span_begin, element_end, at_start, html_from, s
 use Rattle.ansi_html.proofs.BoundLemmas.{units, all_units, few-units, times-less, few-from, pending-same}
 use Rattle.ansi_html.proofs.LengthLemmas.{AtMost, AtMost-end, AtMost-span_begin, AtMost-span_of_classes}
 
-units-lighter : (call other : Call) → IsLighter call other → units call ≡ units other
+units-lighter : (call other : Call) → IsLighter call other → units call ≤ units other
 unfolding units
-units-lighter call other is = ⊎_elim (λ same. ap units same) (λ both. ap units both.0 ∙ sym (ap units both.1)) is
+units-lighter call other is =
+    ⊎_elim (λ same. omega (arith, ap units same))
+    (λ others. ⊎_elim (λ both. omega (arith, ap units both.0, ap units both.1)) (λ both. omega (arith, ap units both.0, ap units both.1)) others) is
 
-all_units-lighter : (calls others : List Call) → AreLighter calls others → all_units calls ≡ all_units others
+all_units-lighter : (calls others : List Call) → AreLighter calls others → all_units calls ≤ all_units others
 unfolding AreLighter all_units
-all_units-lighter [] [] are = refl
+all_units-lighter [] [] are = omega arith
 all_units-lighter [] (other ∷ others) are = absurd are
 all_units-lighter (call ∷ calls) [] are = absurd are
 all_units-lighter (call ∷ calls) (other ∷ others) are = omega (arith, units-lighter call other are.0, all_units-lighter calls others are.1)

@@ -1,4 +1,4 @@
--- A quote leads to more HTML than U+FFFD.
+-- A quote leads to more HTML than U+FFFD, and CAN to no less than ESC \.
 use Rattle.std.proofs.Common.{◌≡◌, ◌≤◌, Bool, true, false, List, [], ◌∷◌, length, sym, ap, ◌∙◌, arith, lit≤, ⊎_elim, length-append}
 use Rattle.std.specs.Prelude.{encode_utf8}
 use Rattle.anstyle_parse.specs.Stream.Call.{Call, print}
@@ -25,6 +25,7 @@ module _ (styling : Styling) where
   call-lighter at call other is =
       ⊎_elim
       (λ same. (omega (arith, ap (λ (x : Call). length (call_html styling at x)) same), ap (λ (x : Call). standing_after x at) same))
+      (λ others. ⊎_elim
       (λ both. (
         omega (
           arith,
@@ -40,6 +41,11 @@ module _ (styling : Styling) where
         ap (λ (x : Call). standing_after x at) both.0 ∙ standing_after-print styling at replacement
             ∙ sym (ap (λ (x : Call). standing_after x at) both.1 ∙ standing_after-print styling at 0x22),
       ))
+      (λ both. (
+        omega (arith, ap (λ (x : Call). length (call_html styling at x)) both.0, ap (λ (x : Call). length (call_html styling at x)) both.1),
+        ap (λ (x : Call). standing_after x at) both.0 ∙ sym (ap (λ (x : Call). standing_after x at) both.1),
+      ))
+      others)
       is
 
   pub html-lighter : (at : Standing) (calls others : List Call) → AreLighter calls others → length (html_from styling at calls) ≤ length (html_from styling at others)

@@ -27,11 +27,11 @@ use Rattle.html_pieces.specs.Verbatim.{IsInText}
 use Rattle.html_pieces.specs.Feed.{Takes}
 
 -- a byte of verbatim text is read as it is, wherever it stands
-verbatim-plain : (b : ℕ) → IsTrue (is_verbatim b) → (b < 0xA0) × (b ≡ 7 → ⊥)
+verbatim-plain : (b : ℕ) → IsTrue (is_verbatim b) → (b < 0x80) × (b ≡ 7 → ⊥)
 unfolding is_verbatim is_text_byte
 verbatim-plain b verbatim =
     let both = and_parts (nat_lt b 0x80) (is_text_byte b) verbatim in
-    (omega (arith, ltb-true b 0x80 both.0), λ seven. false≢true (sym (ap is_text_byte seven) ∙ both.1))
+    (ltb-true b 0x80 both.0, λ seven. false≢true (sym (ap is_text_byte seven) ∙ both.1))
 
 module _ (state : HtmlState) (in_text : IsInText state) (bytes : List ℕ) (verbatim : EachIs is_verbatim bytes) where
   -- the element that its text stands in

@@ -7,12 +7,12 @@ use Rattle.anstyle_parse.specs.declared.accumulator.Utf8Parser.{Utf8Parser}
 use Rattle.anstyle_parse.specs.declared.parser.Parser.{Parser}
 use Rattle.anstyle_parse.specs.declared.state.definitions.State.{State}
 use Rattle.anstyle_parse.specs.declared.state.definitions.State.TheVariants.{SosPmApcString, Utf8}
-use Rattle.anstyle_parse.specs.Stream.Bytes.{bell}
+use Rattle.anstyle_parse.specs.Stream.Bytes.{bell, string_terminator}
 use Rattle.anstyle_parse.specs.Stream.Call.{Call, print}
 use Rattle.anstyle_parse.specs.Stream.Calls.{AreCalls, Continues}
 use Rattle.anstyle_parse.specs.Stream.Characters.{replacement}
 use Rattle.anstyle_parse.specs.Laws.Lawful.{AreLawful}
-use Rattle.anstyle_parse.specs.Machine.AsRead.{is_stray, is_at_ground, is_in_ignored_string, read_from, as_read, as_read_whole, break_in}
+use Rattle.anstyle_parse.specs.Machine.AsRead.{is_stray, is_at_ground, is_in_ignored_string, is_in_terminated_string, read_for, read_from, as_read, as_read_whole, break_in}
 use Rattle.anstyle_parse.specs.Machine.Decoder.{decoded}
 use Rattle.anstyle_parse.specs.Machine.Step.{Machine, new_machine, step, machine_after, machine_calls}
 use Rattle.anstyle_parse.specs.Machine.Stands.{StandsAfter, EndsInCharacter, counted}
@@ -28,12 +28,14 @@ use Rattle.anstyle_parse.proofs.Division.Exists.{IsOpen-open_after}
 use Rattle.anstyle_parse.proofs.Division.Grow.{Open, nothing, front, open_after}
 use Rattle.anstyle_parse.proofs.Division.Only.{AreCalls-only}
 use Rattle.anstyle_parse.proofs.Lawful.Calls.{lawful}
-use Rattle.anstyle_parse.proofs.Machine.AsRead.{read_for-other, read_from-append, read_from-counted}
+use Rattle.anstyle_parse.proofs.Machine.AsRead.{read_for-heard, read_from-append, read_from-counted}
 use Rattle.anstyle_parse.proofs.Machine.AsReadStreams.{as_read-more, read_from-below}
-use Rattle.anstyle_parse.proofs.Machine.Counted.{counted-step}
+use Rattle.anstyle_parse.proofs.Bytes.Classes.{terminator_byte, class_below, class_of}
+use Rattle.anstyle_parse.proofs.Machine.Actions.{new_in}
+use Rattle.anstyle_parse.proofs.Machine.Counted.{counted-step, step-class}
 use Rattle.anstyle_parse.proofs.Machine.Passing.{Continues-calls}
 use Rattle.stream_state.specs.Log.{ContinuesLog, EndsLog, end_calls}
-use Rattle.anstyle_parse.proofs.Machine.LogReading.{grow-stray, broken_off, IsOutside, calls-break, bell-kept}
+use Rattle.anstyle_parse.proofs.Machine.LogReading.{grow-stray, broken_off, IsOutside, calls-break, bell-kept, after_string, string-step, terminated-value}
 
 -- the only state in which strings are ignored
 ignored-state : (state : State) → is_in_ignored_string state ≡ true → state ≡ SosPmApcString
@@ -66,22 +68,33 @@ module _ (b : ℕ) (before : List ℕ) (m : Machine (List ℕ)) (stands : Stands
       let both = and_parts (is_in_ignored_string v.state) (eqb b bell) is in
       stepped ∙ ap (λ n. counted (step decoded n v)) (eqb-true b bell both.1) ∙ bell-kept v (ignored-state v.state both.0) ∙ sym same ∙ stands
 
-  after-other : (is_at_ground decoded v.state v.accumulator b && is_stray b) ≡ false → (is_in_ignored_string v.state && eqb b bell) ≡ false
-      → StandsAfter (step decoded b m) (as_read (before ++ b ∷ []))
+  -- 9C ends the string that is open
+  after-terminator : is_in_terminated_string v.state ≡ true → b ≡ 0x9C → StandsAfter (step decoded b m) (as_read [])
+  unfolding as_read after_string class_of class_below
+  after-terminator is terminator =
+      stepped ∙ ap (λ n. counted (step decoded n v)) terminator
+      ∙ ap (λ (x : Machine (List ℕ)). counted (step decoded 0x9C x)) (terminated-value o is)
+      ∙ ap counted (step-class decoded 0x9C (new_in v.state []))
+      ∙ string-step v.state is terminator_byte 0x9C
+
+  after-same : read_for decoded v.state v.accumulator b ≡ b ∷ [] → StandsAfter (step decoded b m) (as_read (before ++ b ∷ []))
   unfolding as_read
-  after-other other another =
+  after-same is =
       let n = machine_after decoded (as_read before) (new_machine []) in
-      let read : read_from decoded n (b ∷ []) ≡ b ∷ [] =
-      read_from-counted decoded n v (sym stands ∙ same) (b ∷ [])
-      ∙ ap (λ l. l ++ []) (read_for-other decoded v.state v.accumulator b other another) in
+      let read : read_from decoded n (b ∷ []) ≡ b ∷ [] = read_from-counted decoded n v (sym stands ∙ same) (b ∷ []) ∙ ap (λ l. l ++ []) is in
       subst (StandsAfter (step decoded b m)) (sym (read_from-append decoded (new_machine []) before (b ∷ []) ∙ ap (λ l. as_read before ++ l) read))
       (StandsAfter-machine m (as_read before) (b ∷ []) stands)
 
   after_byte : (log : List ℕ) × StandsAfter (step decoded b m) (as_read log)
   after_byte =
+      let terminated = is_in_terminated_string v.state in
       ⊎_elim
       (λ is. ([], after-stray is))
-      (λ other. ⊎_elim (λ is. (before, after-end is)) (λ another. (before ++ b ∷ [], after-other other another))
+      (λ other. ⊎_elim (λ is. (before, after-end is))
+      (λ another. ⊎_elim
+      (λ is. let both = and_parts terminated (eqb b string_terminator) is in ([], after-terminator both.0 (eqb-true b string_terminator both.1)))
+      (λ further. (before ++ b ∷ [], after-same (read_for-heard decoded v.state v.accumulator b other another further)))
+      (cases_Bool (terminated && eqb b string_terminator)))
       (cases_Bool (is_in_ignored_string v.state && eqb b bell)))
       (cases_Bool (is_at_ground decoded v.state v.accumulator b && is_stray b))
 

@@ -7,7 +7,7 @@ use Rattle.anstyle_parse.specs.declared.parser.Parser.{Parser}
 use Rattle.anstyle_parse.specs.declared.state.definitions.State.{State}
 use Rattle.anstyle_parse.specs.declared.state.definitions.State.TheVariants.{Ground, Utf8}
 use Rattle.anstyle_parse.specs.Stream.Bytes.{bell, string_terminator}
-use Rattle.anstyle_parse.specs.Machine.AsRead.{is_stray, is_at_ground, is_in_ignored_string, replacement_text, read_for, read_from, as_read, as_read_whole, break_in}
+use Rattle.anstyle_parse.specs.Machine.AsRead.{is_stray, is_at_ground, is_in_ignored_string, is_in_terminated_string, replacement_text, string_end, heard, read_for, read_from, as_read, as_read_whole, break_in}
 use Rattle.anstyle_parse.specs.Machine.Decoder.{decoded}
 use Rattle.anstyle_parse.specs.Machine.Stands.{seen}
 use Rattle.anstyle_parse.specs.Machine.Step.{Machine, AccumulatorStep, new_machine, machine_after}
@@ -21,10 +21,15 @@ use Rattle.anstyle_parse.proofs.Machine.Seen.{Seen-machine}
 use Rattle.anstyle_parse.proofs.Streams.{AreBelow-append}
 
 -- what is read is bytes
+heard-below : (b : ℕ) → b < 256 → heard b < 256
+unfolding heard
+heard-below b small = cond_both (eqb b string_terminator) 0x9D b (λ n. n < 256) (λ _. omega arith) (λ _. small)
+
 read_for-below : {A : Type 0} (taken : AccumulatorStep A) (state : State) (value : A) (b : ℕ) → b < 256 → AreBelow 256 (read_for taken state value b)
 read_for-below taken state value b small =
     cond_both {A = List ℕ} (is_at_ground taken state value b && is_stray b) _ _ (AreBelow 256) (λ _. (omega arith, (omega arith, (omega arith, tt))))
-    (λ _. cond_both {A = List ℕ} (is_in_ignored_string state && eqb b bell) _ _ (AreBelow 256) (λ _. (omega arith, tt)) (λ _. (small, tt)))
+    (λ _. cond_both {A = List ℕ} (is_in_ignored_string state && eqb b bell) _ _ (AreBelow 256) (λ _. (omega arith, (omega arith, tt)))
+    (λ _. cond_both {A = List ℕ} (is_in_terminated_string state) _ _ (AreBelow 256) (λ _. (heard-below b small, tt)) (λ _. (small, tt))))
 
 pub read_from-below : {A : Type 0} (taken : AccumulatorStep A) (m : Machine A) (bytes : List ℕ) → AreBelow 256 bytes → AreBelow 256 (read_from taken m bytes)
 read_from-below taken m [] below = tt
@@ -41,7 +46,7 @@ is_at_ground-seen state value b = refl
 
 read_for-seen : (state : State) (value : Utf8Parser) (b : ℕ) → read_for parser_after state value b ≡ read_for decoded state (front_of value) b
 read_for-seen state value b =
-    ap (λ t. cond (t && is_stray b) replacement_text (cond (is_in_ignored_string state && eqb b bell) (string_terminator ∷ []) (b ∷ [])))
+    ap (λ t. cond (t && is_stray b) replacement_text (cond (is_in_ignored_string state && eqb b bell) string_end (cond (is_in_terminated_string state) (heard b ∷ []) (b ∷ []))))
     (is_at_ground-seen state value b)
 
 pub read_from-seen : (m : Machine Utf8Parser) (bytes : List ℕ) → AreBelow 256 bytes → read_from parser_after m bytes ≡ read_from decoded (seen front_of m) bytes

@@ -10,7 +10,7 @@ use Rattle.anstyle_parse.specs.declared.parser.Parser.{Parser}
 use Rattle.anstyle_parse.specs.declared.parser.runs.Run.{Run}
 use Rattle.anstyle_parse.specs.declared.parser.runs.Run.TheVariants.{Printed, OfHookedString, OfIgnoredString, OfIgnoredHeader}
 use Rattle.anstyle_parse.specs.declared.state.definitions.State.{State}
-use Rattle.anstyle_parse.specs.declared.state.definitions.State.TheVariants.{CsiEntry, CsiParam, Ground, OscString, Utf8}
+use Rattle.anstyle_parse.specs.declared.state.definitions.State.TheVariants.{CsiEntry, CsiParam, DcsPassthrough, Ground, OscString, Utf8}
 use Rattle.anstyle_parse.specs.declared.utf8.Front.TheVariants.{Empty}
 use Rattle.anstyle_parse.specs.Stream.Bytes.{is_within, is_parameter, is_final}
 use Rattle.anstyle_parse.specs.Stream.Call.{Call, Goes}
@@ -18,7 +18,7 @@ use Rattle.anstyle_parse.specs.Stream.Characters.{is_well_formed, character_of}
 use Rattle.anstyle_parse.specs.Stream.Items.{EachIs}
 use Rattle.anstyle_parse.specs.Stream.Texts.{is_layout, layout_calls, FollowsCalls}
 use Rattle.anstyle_parse.specs.Laws.Lawful.{is_character}
-use Rattle.anstyle_parse.specs.Machine.AsRead.{is_at_ground, is_break, is_in_ignored_string, read_for, read_from}
+use Rattle.anstyle_parse.specs.Machine.AsRead.{is_at_ground, is_break, is_in_ignored_string, is_in_terminated_string, heard, read_for, read_from}
 use Rattle.anstyle_parse.specs.Machine.Step.{Machine, AccumulatorStep, Completes, state_after_answer, after_answer, step, step_calls, machine_after, machine_calls}
 use Rattle.anstyle_parse.specs.Machine.Stands.{counted}
 use Rattle.anstyle_parse.specs.Views.Accumulator.{parser_after}
@@ -34,7 +34,7 @@ use Rattle.anstyle_parse.proofs.Characters.Encoding.{within, within_parts, encod
 use Rattle.anstyle_parse.proofs.Characters.Layout.{layout-low}
 use Rattle.anstyle_parse.proofs.Characters.Table.{is_well_formed-nil}
 use Rattle.anstyle_parse.proofs.Characters.Whole.{IsWhole-begins}
-use Rattle.anstyle_parse.proofs.Machine.AsRead.{AreReadAsTheyAre, as_they_are-none, as_they_are-byte, as_they_are-more, as_they_are-append, as_they_are-each, as_they_are-plain, read_for-in, read_for-low, read_for-lead, read_for-no_string, read_from-counted}
+use Rattle.anstyle_parse.proofs.Machine.AsRead.{AreReadAsTheyAre, as_they_are-none, as_they_are-byte, as_they_are-more, as_they_are-append, as_they_are-each, as_they_are-plain, read_for-in, read_for-text, read_for-low, read_for-lead, read_for-no_string, read_from-counted}
 use Rattle.anstyle_parse.proofs.Machine.Counted.{same_machine}
 use Rattle.anstyle_parse.proofs.Machine.Passing.{passed-sequence}
 use Rattle.anstyle_parse.proofs.Machine.Runs.{calls-introduced, begun, reading, step-run, step-stored, state-storing}
@@ -60,7 +60,7 @@ command-read : (m : Machine Utf8Parser) (b : ℕ) → m.state ≡ OscString → 
 command-read m b command is =
     let ends = within_parts 0x20 0xFF b is in
     let stepped = step-stored parser_after b m command ends.0 (omega (arith, ends.1)) in (
-      ap (λ s. read_for parser_after s m.accumulator b) command ∙ read_for-in parser_after OscString m.accumulator b refl refl,
+      ap (λ s. read_for parser_after s m.accumulator b) command ∙ read_for-in parser_after OscString m.accumulator b refl refl refl,
       ap (λ (x : Machine Utf8Parser). x.state) stepped.0 ∙ state-storing b m ∙ command,
     )
 
@@ -103,19 +103,24 @@ passed-front test bytes left front passes taken =
     taken ∙ ap (λ n. take n bytes) whole ∙ ap (λ l. take (length passes.passed) l) passes.joined
     ∙ take-append_seam passes.passed left
 
--- what is read for a byte below A0 in the ground state
-pub read_one-ground : (p : Parser Utf8Parser) (b : ℕ) → p.state ≡ Ground → b < 0xA0 → read_one p b ≡ b ∷ []
+-- what is read for a byte below 80 in the ground state
+pub read_one-ground : (p : Parser Utf8Parser) (b : ℕ) → p.state ≡ Ground → b < 0x80 → read_one p b ≡ b ∷ []
 read_one-ground p b ground low =
     ap (λ s. read_for parser_after s p.accumulator b) ground ∙ read_for-no_string parser_after Ground p.accumulator b low refl
 
--- and for any in a state that is not the ground state, nor in a character or an ignored string
+-- and for any in a state that is not the ground state, nor in a character or a string that 9C would end
 pub read_one-in : (p : Parser Utf8Parser) (state : State) (b : ℕ) → p.state ≡ state → is_at_ground parser_after state p.accumulator b ≡ false
-    → is_in_ignored_string state ≡ false → read_one p b ≡ b ∷ []
-read_one-in p state b is outside another = ap (λ s. read_for parser_after s p.accumulator b) is ∙ read_for-in parser_after state p.accumulator b outside another
+    → is_in_ignored_string state ≡ false → is_in_terminated_string state ≡ false → read_one p b ≡ b ∷ []
+read_one-in p state b is outside another elsewhere =
+    ap (λ s. read_for parser_after s p.accumulator b) is ∙ read_for-in parser_after state p.accumulator b outside another elsewhere
+
+-- and in a hooked string
+pub read_one-hooked : (p : Parser Utf8Parser) (b : ℕ) → p.state ≡ DcsPassthrough → read_one p b ≡ heard b ∷ []
+read_one-hooked p b hooked = ap (λ s. read_for parser_after s p.accumulator b) hooked ∙ read_for-text parser_after DcsPassthrough p.accumulator b refl refl refl
 
 pub read_one-header : (p : Parser Utf8Parser) (b : ℕ) → (p.state ≡ CsiEntry) ⊎ (p.state ≡ CsiParam) → read_one p b ≡ b ∷ []
 read_one-header p b header =
-    ⊎_elim (λ entry. read_one-in p CsiEntry b entry refl refl) (λ param. read_one-in p CsiParam b param refl refl) header
+    ⊎_elim (λ entry. read_one-in p CsiEntry b entry refl refl refl) (λ param. read_one-in p CsiParam b param refl refl refl) header
 
 -- the bytes of a character, in the ground state, where none is begun
 module _ {A : Type 0} (adds : AccumulatorStep A) (m : Machine A) where
@@ -129,10 +134,10 @@ module _ {A : Type 0} (adds : AccumulatorStep A) (m : Machine A) where
       let stepped = step-at adds Utf8 b (reading adds m now) refl in
       ⊎_elim
       (λ last.
-      let kept = read_for-in adds Utf8 now b (ap (λ (x : A × Taken). is_break x.1) last.0) refl in
+      let kept = read_for-in adds Utf8 now b (ap (λ (x : A × Taken). is_break x.1) last.0) refl refl in
       subst (λ l. AreReadAsTheyAre adds (reading adds m now) (b ∷ l)) (sym last.1) (as_they_are-byte adds (reading adds m now) b kept))
       (λ more.
-      let kept = read_for-in adds Utf8 now b (ap is_break more.0) refl in
+      let kept = read_for-in adds Utf8 now b (ap is_break more.0) refl refl in
       let after : step adds b (reading adds m now) ≡ reading adds m (adds now b).0 =
       stepped ∙ ap (λ (x : Taken). after_answer adds x b (record m { state = state_after_answer x; accumulator = (adds now b).0 })) more.0 in
       let Q : Machine A → Type 0 = λ x. AreReadAsTheyAre adds x bytes in
@@ -239,6 +244,16 @@ module _ {P : Type 0} (means : P → Call → P → Type 0) (receives : P → Li
   LeadsAsReadTo-one p q a b byte left reached goes =
       LeadsAsReadTo-read p q a b (byte ∷ left) left (read_one p byte) refl (ap counted reached)
       (receives-Goes means receives follows (machine_calls parser_after (read_one p byte) (machine_of p)) a b goes)
+
+  -- one of which one is read
+  pub LeadsAsReadTo-other : (p q : Parser Utf8Parser) (a b : P) (byte other : ℕ) (left : List ℕ) → read_one p byte ≡ other ∷ []
+      → machine_of q ≡ step parser_after other (machine_of p) → Goes means a (step_calls parser_after other (machine_of p)) b
+      → LeadsAsReadTo receives (stage p a (byte ∷ left)) (stage q b left)
+  LeadsAsReadTo-other p q a b byte other left is stepped goes =
+      let S : List ℕ → Type 0 = λ l. machine_of q ≡ machine_after parser_after l (machine_of p) in
+      let T : List ℕ → Type 0 = λ l. Goes means a (machine_calls parser_after l (machine_of p)) b in
+      LeadsAsReadTo-one p q a b byte left (subst S (sym is) stepped)
+      (subst T (sym is) (subst (λ calls. Goes means a calls b) (sym (append-nil (step_calls parser_after other (machine_of p)))) goes))
 
   -- one that is read as it is
   pub LeadsAsReadTo-byte : (p q : Parser Utf8Parser) (a b : P) (byte : ℕ) (left : List ℕ) → read_one p byte ≡ byte ∷ []

@@ -1,24 +1,24 @@
 -- What is read of a log, read again, is the same.
-use Rattle.std.proofs.Common.{◌≡◌, ℕ, ◌≤◌, ◌⊎◌, arith, true, eqb, refl, List, [], ◌∷◌, ◌++◌, ⊎_elim, inl, inr, ap, sym, ◌∙◌, subst}
+use Rattle.std.proofs.Common.{◌≡◌, ℕ, ◌≤◌, ◌⊎◌, arith, true, false, eqb, refl, List, [], ◌∷◌, ◌++◌, ⊎_elim, inl, inr, ap, sym, ◌∙◌, subst}
 use Rattle.std.specs.Prelude.{◌&&◌}
-use Rattle.std.proofs.lemmas.Bool.{cases_Bool, cond-false, false_from_ne_true, and_parts}
+use Rattle.std.proofs.lemmas.Bool.{cases_Bool, cond-false, false_from_ne_true, and_left, and_parts}
 use Rattle.anstyle_parse.specs.declared.utf8.Taken.{Taken}
 use Rattle.anstyle_parse.specs.declared.utf8.Taken.TheVariants.{Broken}
 use Rattle.anstyle_parse.specs.declared.state.definitions.State.{State}
 use Rattle.anstyle_parse.specs.declared.state.definitions.State.TheVariants.{Ground, Utf8}
-use Rattle.anstyle_parse.specs.Stream.Bytes.{is_within, bell, string_terminator}
+use Rattle.anstyle_parse.specs.Stream.Bytes.{is_within, bell}
 use Rattle.anstyle_parse.specs.Stream.Characters.{is_lead, is_well_formed, is_proper_front, replacement}
 use Rattle.anstyle_parse.specs.Stream.Items.{EachIs}
-use Rattle.anstyle_parse.specs.Machine.AsRead.{is_stray, is_at_ground, is_in_ignored_string, replacement_text, read_for, read_from, as_read}
+use Rattle.anstyle_parse.specs.Machine.AsRead.{is_stray, is_at_ground, is_in_ignored_string, is_in_terminated_string, replacement_text, string_end, heard, read_for, read_from, as_read}
 use Rattle.anstyle_parse.specs.Machine.Decoder.{decoded}
 use Rattle.anstyle_parse.specs.Machine.Stands.{counted}
 use Rattle.anstyle_parse.specs.Machine.Step.{Machine, new_machine, IsBroken, after_continuation, state_after_answer, step, step_from, machine_after}
 use Rattle.anstyle_parse.proofs.Agreement.Fronts.{nothing_held, front_held}
 use Rattle.anstyle_parse.proofs.Agreement.Whole.{machine_after-append}
 use Rattle.anstyle_parse.proofs.Bytes.Passing.{EachIs-parts}
-use Rattle.anstyle_parse.proofs.Characters.Encoding.{within_parts}
+use Rattle.anstyle_parse.proofs.Characters.Encoding.{within, within_parts}
 use Rattle.anstyle_parse.proofs.Characters.Table.{EachIs-front, is_front-proper, is_front-well_formed}
-use Rattle.anstyle_parse.proofs.Machine.AsRead.{AreReadAsTheyAre, as_they_are-byte, as_they_are-more, read_for-stray, read_for-end, read_for-other, read_for-lead, read_for-low}
+use Rattle.anstyle_parse.proofs.Machine.AsRead.{AreReadAsTheyAre, as_they_are-byte, as_they_are-more, as_they_are-plain, read_for-stray, read_for-end, read_for-text, read_for-other, read_for-lead, heard-again, heard-bell, string-elsewhere}
 use Rattle.anstyle_parse.proofs.Machine.AsReadTo.{completed-read}
 use Rattle.anstyle_parse.proofs.Machine.Runs.{begun, reading}
 use Rattle.anstyle_parse.proofs.Machine.Steps.{step-at, step-broken}
@@ -75,6 +75,22 @@ module _ (m : Machine (List ℕ)) (rests : m.state ≡ Ground → m.accumulator 
       let Q : Machine (List ℕ) → Type 0 = λ x. AreReadAsTheyAre decoded x (0xBF ∷ 0xBD ∷ []) in
       as_they_are-more decoded m 0xEF (0xBF ∷ 0xBD ∷ []) (read_for-lead decoded m.state m.accumulator 0xEF refl) (subst Q (sym begun_by) (goes_on m))
 
+  -- ESC \, wherever it stands
+  string_end-read : AreReadAsTheyAre decoded m string_end
+  string_end-read =
+      as_they_are-plain decoded (λ n. is_within 0x1B 0x7E n)
+      (λ n is. let ends = within_parts 0x1B 0x7E n is in (omega (arith, ends.1), (λ is_bell. omega (arith, ends.0, is_bell))))
+      m string_end (within 0x1B 0x7E 0x1B (omega arith) (omega arith), (within 0x1B 0x7E 0x5C (omega arith) (omega arith), tt))
+
+  -- text of a string
+  text-read : (b : ℕ) → (is_in_ignored_string m.state && eqb b bell) ≡ false → is_in_terminated_string m.state ≡ true → AreReadAsTheyAre decoded m (heard b ∷ [])
+  text-read b another is =
+      as_they_are-byte decoded m (heard b)
+      (read_for-text decoded m.state m.accumulator (heard b)
+      (and_left (is_at_ground decoded m.state m.accumulator (heard b)) (is_stray (heard b)) (string-elsewhere decoded m.state m.accumulator (heard b) is))
+      (ap (λ t. is_in_ignored_string m.state && t) (heard-bell b) ∙ another) is
+      ∙ ap (λ n. n ∷ []) (heard-again b))
+
   read-stays : (b : ℕ) → AreReadAsTheyAre decoded m (read_for decoded m.state m.accumulator b)
   read-stays b =
       let stray = is_at_ground decoded m.state m.accumulator b && is_stray b in
@@ -83,9 +99,11 @@ module _ (m : Machine (List ℕ)) (rests : m.state ≡ Ground → m.accumulator 
       ⊎_elim
       (λ is. subst Q (sym (read_for-stray decoded m.state m.accumulator b is)) (replacement-read b (and_parts (is_at_ground decoded m.state m.accumulator b) (is_stray b) is).0))
       (λ other. ⊎_elim
-      (λ is. subst Q (sym (read_for-end decoded m.state m.accumulator b other is))
-      (as_they_are-byte decoded m string_terminator (read_for-low decoded m.state m.accumulator string_terminator (omega arith) (λ h. cc))))
-      (λ another. let same = read_for-other decoded m.state m.accumulator b other another in subst Q (sym same) (as_they_are-byte decoded m b same))
+      (λ is. subst Q (sym (read_for-end decoded m.state m.accumulator b other is)) string_end-read)
+      (λ another. ⊎_elim
+      (λ is. subst Q (sym (read_for-text decoded m.state m.accumulator b other another is)) (text-read b another is))
+      (λ outside. let same = read_for-other decoded m.state m.accumulator b other another outside in subst Q (sym same) (as_they_are-byte decoded m b same))
+      (cases_Bool (is_in_terminated_string m.state)))
       (cases_Bool ends))
       (cases_Bool stray)
 

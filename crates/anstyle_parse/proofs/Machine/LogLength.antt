@@ -9,15 +9,15 @@ use Rattle.std.proofs.lemmas.Str.{length-encode, len_utf8_bounds}
 use Rattle.anstyle_parse.specs.declared.utf8.Taken.{Taken}
 use Rattle.anstyle_parse.specs.declared.utf8.Taken.TheVariants.{More, Char, Broken}
 use Rattle.anstyle_parse.specs.declared.state.definitions.State.{State}
-use Rattle.anstyle_parse.specs.declared.state.definitions.State.TheVariants.{Ground, Utf8}
-use Rattle.anstyle_parse.specs.Stream.Bytes.{bell, is_intermediate, string_terminator}
+use Rattle.anstyle_parse.specs.declared.state.definitions.State.TheVariants.{Ground, SosPmApcString, Utf8}
+use Rattle.anstyle_parse.specs.Stream.Bytes.{bell, is_intermediate}
 use Rattle.anstyle_parse.specs.Stream.Arguments.{significant, has_shape}
 use Rattle.anstyle_parse.specs.Stream.Call.{Call, print}
 use Rattle.anstyle_parse.specs.Stream.Calls.{AreCalls}
 use Rattle.anstyle_parse.specs.Stream.Characters.{is_well_formed, is_proper_front, character_of, replacement}
 use Rattle.anstyle_parse.specs.Stream.Items.{Body, escape, csi, dcs_header, dcs, dcs_ignored, osc, sos_pm_apc, character}
 use Rattle.anstyle_parse.specs.Laws.TextLength.{text_length}
-use Rattle.anstyle_parse.specs.Machine.AsRead.{is_stray, is_at_ground, is_in_ignored_string, replacement_text, read_for, read_from, as_read, as_read_whole}
+use Rattle.anstyle_parse.specs.Machine.AsRead.{is_stray, is_at_ground, is_in_ignored_string, is_in_terminated_string, replacement_text, string_end, heard, read_for, read_from, as_read, as_read_whole}
 use Rattle.anstyle_parse.specs.Machine.Decoder.{decoded}
 use Rattle.anstyle_parse.specs.Machine.Step.{Machine, new_machine, state_after_answer, step_calls, machine_after, machine_calls}
 use Rattle.anstyle_parse.specs.Machine.Stands.{counted}
@@ -28,10 +28,11 @@ use Rattle.anstyle_parse.proofs.Canonical.TextLength.{is_inside, body-inside}
 use Rattle.anstyle_parse.proofs.Characters.Encoding.{encode_one, encode_three}
 use Rattle.anstyle_parse.proofs.Division.Exists.{IsOpen, Grown-grow}
 use Rattle.anstyle_parse.proofs.Division.Grow.{Open, nothing, front, inside, Growth, start, grow, more, done, break_off, grow_escape, grow_control, grow_device, grow_hooked, grow_dropped, grow_command, grow_ignored, grow_within, grow_body}
-use Rattle.anstyle_parse.proofs.Machine.AsRead.{read_for-stray, read_for-end, read_for-other, read_from-counted}
+use Rattle.anstyle_parse.proofs.Machine.AsRead.{read_for-stray, read_for-end, read_for-text, read_for-other, read_from-counted}
+use Rattle.anstyle_parse.proofs.Machine.Actions.{new_in}
 use Rattle.anstyle_parse.proofs.Machine.Counted.{step_calls_at, answer_calls_at, step_calls-class, counted-machine}
 use Rattle.anstyle_parse.proofs.Division.Only.{AreCalls-only}
-use Rattle.anstyle_parse.proofs.Machine.LogReading.{broken_off, IsOutside, outside-at, calls-replaced, after-replaced, calls-whole}
+use Rattle.anstyle_parse.proofs.Machine.LogReading.{broken_off, IsOutside, outside-at, calls-replaced, after-replaced, end-read, ignored-value, calls-whole}
 
 -- the text that a list of calls leads to
 all_text : List Call → ℕ
@@ -217,6 +218,15 @@ reads-replaced o is outside =
       few = omega (arith, ap all_text (calls-replaced o is outside), all_text-append (broken_off o) (print replacement ∷ []), off-few o, three);
     }
 
+reads-ended : (o : Open) → value_at o ≡ new_in SosPmApcString [] → Reads o string_end
+unfolding owed all_text
+reads-ended o same = record {
+  next = nothing;
+  is_open = tt;
+  stands = ap (λ (m : Machine (List ℕ)). counted (machine_after decoded string_end m)) same ∙ end-read.1;
+  few = omega (arith, ap all_text (ap (machine_calls decoded string_end) same ∙ end-read.0));
+}
+
 reads : (o : Open) (b : ℕ) → IsOpen o → Reads o (read_for decoded (value_at o).state (value_at o).accumulator b)
 reads o b is =
     let v = value_at o in
@@ -225,8 +235,11 @@ reads o b is =
     ⊎_elim
     (λ stray. subst (Reads o) (sym (read_for-stray decoded v.state v.accumulator b stray)) (reads-replaced o is (outside-at o b (and_parts at (is_stray b) stray).0)))
     (λ other. ⊎_elim
-    (λ ends. subst (Reads o) (sym (read_for-end decoded v.state v.accumulator b other ends)) (reads-byte o string_terminator is))
-    (λ another. subst (Reads o) (sym (read_for-other decoded v.state v.accumulator b other another)) (reads-byte o b is))
+    (λ ends. subst (Reads o) (sym (read_for-end decoded v.state v.accumulator b other ends)) (reads-ended o (ignored-value o (and_parts ignored (eqb b bell) ends).0)))
+    (λ another. ⊎_elim
+    (λ inside. subst (Reads o) (sym (read_for-text decoded v.state v.accumulator b other another inside)) (reads-byte o (heard b) is))
+    (λ outside. subst (Reads o) (sym (read_for-other decoded v.state v.accumulator b other another outside)) (reads-byte o b is))
+    (cases_Bool (is_in_terminated_string v.state)))
     (cases_Bool (ignored && eqb b bell)))
     (cases_Bool (at && is_stray b))
 

@@ -1,29 +1,30 @@
--- A log beside bytes that are as many, where a quotation mark stands for each byte that belongs to no character: these make
--- as many calls.
-use Rattle.std.proofs.Common.{◌≡◌, ◌≤◌, ℕ, eqb, List, [], ◌∷◌, ◌++◌, length, refl, sym, ap, ◌∙◌, subst, arith, inl, inr, ⊎_elim, append-nil}
+-- A log beside bytes that are as many, where a quotation mark stands for each byte that belongs to no character, and CAN
+-- for each BEL that ends a string: these make as many calls.
+use Rattle.std.proofs.Common.{◌≡◌, ◌≤◌, ℕ, false, eqb, List, [], ◌∷◌, ◌++◌, length, refl, sym, ap, ◌∙◌, subst, arith, inl, inr, ⊎_elim, append-nil}
 use Rattle.std.specs.Prelude.{◌&&◌}
 use Rattle.std.proofs.lemmas.Bool.{and_parts, cases_Bool}
-use Rattle.anstyle_parse.specs.Stream.Bytes.{bell, string_terminator}
-use Rattle.anstyle_parse.specs.Stream.Call.{Call, print}
+use Rattle.anstyle_parse.specs.Stream.Bytes.{bell}
+use Rattle.anstyle_parse.specs.Stream.Call.{Call, print, execute, esc_dispatch}
 use Rattle.anstyle_parse.specs.Stream.Calls.{AreCalls}
 use Rattle.anstyle_parse.specs.Stream.Characters.{replacement}
-use Rattle.anstyle_parse.specs.Machine.AsRead.{is_stray, is_at_ground, is_in_ignored_string, replacement_text, read_for, read_from, as_read, as_read_whole}
+use Rattle.anstyle_parse.specs.Machine.AsRead.{is_stray, is_at_ground, is_in_ignored_string, is_in_terminated_string, replacement_text, string_end, heard, read_for, read_from, as_read, as_read_whole}
 use Rattle.anstyle_parse.specs.Machine.Decoder.{decoded}
-use Rattle.anstyle_parse.specs.Machine.Step.{new_machine, step, step_calls, machine_after, machine_calls}
+use Rattle.anstyle_parse.specs.Machine.Step.{Machine, new_machine, step, step_calls, machine_after, machine_calls}
 use Rattle.anstyle_parse.specs.Machine.Stands.{counted}
 use Rattle.anstyle_parse.proofs.Agreement.Values.{value_at}
 use Rattle.anstyle_parse.proofs.Agreement.Whole.{value_at-step, counted-counted, machine_after-append, machine_calls-append, AreCalls-machine}
 use Rattle.anstyle_parse.proofs.Division.Exists.{IsOpen, Grown-grow}
 use Rattle.anstyle_parse.proofs.Division.Grow.{Open, nothing, front, inside, grow}
-use Rattle.anstyle_parse.proofs.Machine.AsRead.{read_for-stray, read_for-end, read_for-other, read_from-counted}
+use Rattle.anstyle_parse.proofs.Machine.AsRead.{read_for-stray, read_for-end, read_for-text, read_for-other, read_from-counted}
 use Rattle.anstyle_parse.proofs.Machine.Counted.{counted-machine}
 use Rattle.anstyle_parse.proofs.Canonical.Bounds.{length-calls}
 use Rattle.anstyle_parse.proofs.Division.Begun.{AreCalls-in_place}
 use Rattle.anstyle_parse.proofs.Division.Ends.{EndsInCharacter-state}
 use Rattle.anstyle_parse.proofs.Division.Only.{AreCalls-only}
-use Rattle.anstyle_parse.proofs.Machine.LogReading.{broken_off, IsOutside, outside-at, calls-replaced, after-replaced, calls-quote, after-quote, calls-whole, same_state}
+use Rattle.anstyle_parse.proofs.Machine.LogReading.{broken_off, IsOutside, outside-at, calls-replaced, after-replaced, calls-quote, after-quote, end-read, cancel-read, ignored-value, calls-whole, same_state}
+use Rattle.anstyle_parse.proofs.Machine.Actions.{new_in}
 use Rattle.anstyle_parse.specs.Laws.Lighter.{AreLighter, AreEnough}
-use Rattle.anstyle_parse.specs.declared.state.definitions.State.TheVariants.{Utf8}
+use Rattle.anstyle_parse.specs.declared.state.definitions.State.TheVariants.{SosPmApcString, Utf8}
 
 lighter-same : (calls : List Call) → AreLighter calls calls
 unfolding AreLighter
@@ -67,7 +68,11 @@ quotes-byte o b is =
 
 one_quote : AreLighter (print replacement ∷ []) (print 0x22 ∷ [])
 unfolding AreLighter
-one_quote = (inr (refl, refl), tt)
+one_quote = (inr (inl (refl, refl)), tt)
+
+one_cancel : AreLighter (esc_dispatch [] false 0x5C ∷ []) (execute 0x18 ∷ [])
+unfolding AreLighter
+one_cancel = (inr (inr (refl, refl)), tt)
 
 quotes-replaced : (o : Open) → IsOpen o → IsOutside o → Quotes o replacement_text
 quotes-replaced o is outside = record {
@@ -82,6 +87,18 @@ quotes-replaced o is outside = record {
       (lighter-append (broken_off o) (broken_off o) (print replacement ∷ []) (print 0x22 ∷ []) (lighter-same (broken_off o)) one_quote));
 }
 
+quotes-ended : (o : Open) → value_at o ≡ new_in SosPmApcString [] → Quotes o string_end
+quotes-ended o same = record {
+  byte = 0x18;
+  next = nothing;
+  is_open = tt;
+  stands = ap (λ (m : Machine (List ℕ)). counted (machine_after decoded string_end m)) same ∙ end-read.1;
+  beside = ap (λ (m : Machine (List ℕ)). counted (step decoded 0x18 m)) same ∙ cancel-read.1;
+  lighter =
+      subst (λ l. AreLighter l (step_calls decoded 0x18 (value_at o))) (sym (ap (machine_calls decoded string_end) same ∙ end-read.0))
+      (subst (AreLighter (esc_dispatch [] false 0x5C ∷ [])) (sym (ap (step_calls decoded 0x18) same ∙ cancel-read.0)) one_cancel);
+}
+
 quotes : (o : Open) (b : ℕ) → IsOpen o → Quotes o (read_for decoded (value_at o).state (value_at o).accumulator b)
 quotes o b is =
     let v = value_at o in
@@ -90,8 +107,11 @@ quotes o b is =
     ⊎_elim
     (λ stray. subst (Quotes o) (sym (read_for-stray decoded v.state v.accumulator b stray)) (quotes-replaced o is (outside-at o b (and_parts at (is_stray b) stray).0)))
     (λ other. ⊎_elim
-    (λ ends. subst (Quotes o) (sym (read_for-end decoded v.state v.accumulator b other ends)) (quotes-byte o string_terminator is))
-    (λ another. subst (Quotes o) (sym (read_for-other decoded v.state v.accumulator b other another)) (quotes-byte o b is))
+    (λ ends. subst (Quotes o) (sym (read_for-end decoded v.state v.accumulator b other ends)) (quotes-ended o (ignored-value o (and_parts ignored (eqb b bell) ends).0)))
+    (λ another. ⊎_elim
+    (λ inside. subst (Quotes o) (sym (read_for-text decoded v.state v.accumulator b other another inside)) (quotes-byte o (heard b) is))
+    (λ outside. subst (Quotes o) (sym (read_for-other decoded v.state v.accumulator b other another outside)) (quotes-byte o b is))
+    (cases_Bool (is_in_terminated_string v.state)))
     (cases_Bool (ignored && eqb b bell)))
     (cases_Bool (at && is_stray b))
 

@@ -1,28 +1,32 @@
 -- What is read of one byte, by what is open before it.
 use Rattle.std.proofs.Common.{◌≡◌, ℕ, ◌<◌, arith, Bool, true, false, refl, List, [], ◌∷◌, ◌++◌, ⊎_elim, ap, sym, ◌∙◌, subst, append-nil}
 use Rattle.std.specs.Prelude.{◌&&◌, if◌then◌else◌, nat_lt, ⊤}
+use Rattle.std.specs.List.{list_any}
 use Rattle.std.proofs.lemmas.Bool.{false≢true, and_parts, or_cases, agree_below_at, cond-true, cond-false, lt-ltb, false_from_ne_true}
 use Rattle.anstyle_parse.specs.declared.utf8.Taken.{Taken}
 use Rattle.anstyle_parse.specs.declared.utf8.Taken.TheVariants.{More, Char, Broken}
 use Rattle.anstyle_parse.specs.declared.state.definitions.State.{State}
-use Rattle.anstyle_parse.specs.declared.state.definitions.State.TheVariants.{Ground, SosPmApcString, Utf8}
-use Rattle.anstyle_parse.specs.Stream.Bytes.{is_within}
-use Rattle.anstyle_parse.specs.Stream.Call.{Call, print}
+use Rattle.anstyle_parse.specs.declared.state.definitions.State.TheVariants.{DcsIgnore, DcsPassthrough, Ground, SosPmApcString, Utf8}
+use Rattle.anstyle_parse.specs.Stream.Bytes.{is_within, is_intermediate}
+use Rattle.anstyle_parse.specs.Stream.Arguments.{significant}
+use Rattle.anstyle_parse.specs.Stream.Call.{Call, print, execute, esc_dispatch}
 use Rattle.anstyle_parse.specs.Stream.Characters.{is_lead, is_well_formed, is_proper_front, character_of, replacement}
-use Rattle.anstyle_parse.specs.Stream.Items.{EachIs, single, character}
-use Rattle.anstyle_parse.specs.Machine.AsRead.{is_stray, is_break, is_at_ground, replacement_text, as_read, as_read_whole, break_in}
+use Rattle.anstyle_parse.specs.Stream.Items.{EachIs, escape, csi, dcs_header, dcs, dcs_ignored, osc, sos_pm_apc, single, character}
+use Rattle.anstyle_parse.specs.Machine.AsRead.{is_stray, is_break, is_at_ground, is_in_ignored_string, is_in_terminated_string, replacement_text, string_end, as_read, as_read_whole, break_in}
 use Rattle.anstyle_parse.specs.Machine.Decoder.{decoded}
 use Rattle.anstyle_parse.specs.Machine.Step.{Machine, new_machine, state_after_answer, step, step_calls, machine_after, machine_calls}
 use Rattle.anstyle_parse.specs.Machine.Stands.{counted}
-use Rattle.anstyle_parse.proofs.Agreement.Values.{body_value, value_at}
+use Rattle.anstyle_parse.specs.Machine.Table.{change_at}
+use Rattle.anstyle_parse.proofs.Agreement.Values.{Phase, at_entry, misfit, phase_of, control_value, device_value, registers, escape_state, body_value, value_at}
 use Rattle.anstyle_parse.proofs.Agreement.Whole.{value_at-step, machine_calls-append}
-use Rattle.anstyle_parse.proofs.Bytes.Classes.{Class, bell_byte, esc_byte, lead_byte, class_below, class_of}
+use Rattle.anstyle_parse.proofs.Bytes.Classes.{Class, bell_byte, cancel_byte, esc_byte, lead_byte, terminator_byte, class_below, class_of}
 use Rattle.anstyle_parse.proofs.Bytes.Passing.{EachIs-parts}
 use Rattle.anstyle_parse.proofs.Canonical.TextLength.{is_inside, body-inside}
 use Rattle.anstyle_parse.proofs.Characters.Encoding.{within_parts}
 use Rattle.anstyle_parse.proofs.Characters.Table.{EachIs-front, is_front-proper, is_front-well_formed}
 use Rattle.anstyle_parse.proofs.Division.Exists.{IsOpen}
 use Rattle.anstyle_parse.proofs.Division.Grow.{Open, nothing, front, inside, Growth, start, grow, more, done, break_off}
+use Rattle.anstyle_parse.proofs.Machine.Actions.{new_in}
 use Rattle.anstyle_parse.proofs.Machine.Counted.{answer_calls_at, step_at, step_calls_at, step-class, step_calls-class, counted_in-state, counted-machine}
 
 -- a byte that begins neither a sequence nor a character
@@ -47,9 +51,9 @@ stray-below : (b : ℕ) → is_stray b ≡ true → b < 256
 unfolding is_stray
 stray-below b stray =
     ⊎_elim
-    (λ low. let ends = within_parts 0xA0 0xC1 b low in omega (arith, ends.1))
+    (λ low. let ends = within_parts 0x80 0xC1 b low in omega (arith, ends.1))
     (λ high. let ends = within_parts 0xF5 0xFF b high in omega (arith, ends.1))
-    (or_cases (is_within 0xA0 0xC1 b) (is_within 0xF5 0xFF b) stray)
+    (or_cases (is_within 0x80 0xC1 b) (is_within 0xF5 0xFF b) stray)
 
 -- no stray byte does
 pub stray-begins_none : (b : ℕ) → is_stray b ≡ true → begins_none (class_of b) ≡ true
@@ -194,6 +198,91 @@ unfolding class_of class_below
 bell-kept m ignored =
     let Q : State → Type 0 = λ s. counted (step_at decoded s bell_byte 7 m) ≡ counted m in
     ap counted (step-class decoded 7 m) ∙ subst Q (sym ignored) refl
+
+-- ESC \ in its place ends it, and so does CAN
+pub end-read : (machine_calls decoded string_end (new_in SosPmApcString []) ≡ esc_dispatch [] false 0x5C ∷ [])
+    × (counted (machine_after decoded string_end (new_in SosPmApcString [])) ≡ value_at nothing)
+unfolding step step_calls change_at is_within
+end-read = (refl, refl)
+
+pub cancel-read : (step_calls decoded 0x18 (new_in SosPmApcString []) ≡ execute 0x18 ∷ [])
+    × (counted (step decoded 0x18 (new_in SosPmApcString [])) ≡ value_at nothing)
+unfolding step step_calls change_at is_within
+cancel-read = (refl, refl)
+
+-- such a string is open only where the machine is in one
+control-not_ignored : (phase : Phase) (m : Machine (List ℕ)) → is_in_ignored_string (control_value phase m).state ≡ false
+control-not_ignored at_entry m = refl
+control-not_ignored phase m = refl
+
+device-not_ignored : (phase : Phase) (m : Machine (List ℕ)) → is_in_ignored_string (device_value phase m).state ≡ false
+device-not_ignored at_entry m = refl
+device-not_ignored phase m = refl
+
+escape-not_ignored : (some : Bool) → is_in_ignored_string (escape_state some) ≡ false
+escape-not_ignored true = refl
+escape-not_ignored false = refl
+
+pub ignored-value : (o : Open) → is_in_ignored_string (value_at o).state ≡ true → value_at o ≡ new_in SosPmApcString []
+ignored-value nothing e = absurd (false≢true e)
+ignored-value (front bytes) e = absurd (false≢true e)
+ignored-value (inside (escape bytes)) e = absurd (false≢true (sym (escape-not_ignored (list_any is_intermediate bytes)) ∙ e))
+ignored-value (inside (csi between header)) e =
+    absurd (false≢true (sym (control-not_ignored (phase_of (significant header)) (registers (significant header))) ∙ e))
+ignored-value (inside (dcs_header between header)) e =
+    absurd (false≢true (sym (device-not_ignored (phase_of (significant header)) (registers (significant header))) ∙ e))
+ignored-value (inside (dcs between header final text)) e = absurd (false≢true e)
+ignored-value (inside (dcs_ignored between header byte text)) e = absurd (false≢true e)
+ignored-value (inside (osc between text)) e = absurd (false≢true e)
+ignored-value (inside (sos_pm_apc between kind text)) e = refl
+
+-- A byte in a string that 9C would end: where the machine stands after it.
+unfoldable pub after_string : State → Class → Machine (List ℕ)
+after_string state esc_byte = value_at (inside (escape []))
+after_string state cancel_byte = value_at nothing
+after_string state terminator_byte = value_at nothing
+after_string state c = new_in state []
+
+pub string-step : (state : State) → is_in_terminated_string state ≡ true → (c : Class) (b : ℕ) → counted (step_at decoded state c b (new_in state [])) ≡ counted (after_string state c)
+unfolding after_string
+string-step DcsIgnore is esc_byte b = refl
+string-step DcsIgnore is cancel_byte b = refl
+string-step DcsIgnore is terminator_byte b = refl
+string-step DcsIgnore is c b = refl
+string-step DcsPassthrough is esc_byte b = refl
+string-step DcsPassthrough is cancel_byte b = refl
+string-step DcsPassthrough is terminator_byte b = refl
+string-step DcsPassthrough is c b = refl
+string-step SosPmApcString is esc_byte b = refl
+string-step SosPmApcString is cancel_byte b = refl
+string-step SosPmApcString is terminator_byte b = refl
+string-step SosPmApcString is c b = refl
+string-step state is c b = absurd (false≢true is)
+
+device-terminated : (phase : Phase) (m : Machine (List ℕ)) → is_in_terminated_string (device_value phase m).state ≡ true
+    → device_value phase m ≡ new_in (device_value phase m).state []
+device-terminated misfit m e = refl
+device-terminated phase m e = absurd (false≢true e)
+
+pub control-elsewhere : (phase : Phase) (m : Machine (List ℕ)) → is_in_terminated_string (control_value phase m).state ≡ false
+control-elsewhere at_entry m = refl
+control-elsewhere phase m = refl
+
+pub escape-elsewhere : (some : Bool) → is_in_terminated_string (escape_state some) ≡ false
+escape-elsewhere true = refl
+escape-elsewhere false = refl
+
+pub terminated-value : (o : Open) → is_in_terminated_string (value_at o).state ≡ true → value_at o ≡ new_in (value_at o).state []
+terminated-value nothing e = absurd (false≢true e)
+terminated-value (front bytes) e = absurd (false≢true e)
+terminated-value (inside (escape bytes)) e = absurd (false≢true (sym (escape-elsewhere (list_any is_intermediate bytes)) ∙ e))
+terminated-value (inside (csi between header)) e =
+    absurd (false≢true (sym (control-elsewhere (phase_of (significant header)) (registers (significant header))) ∙ e))
+terminated-value (inside (dcs_header between header)) e = device-terminated (phase_of (significant header)) (registers (significant header)) e
+terminated-value (inside (dcs between header final text)) e = refl
+terminated-value (inside (dcs_ignored between header byte text)) e = refl
+terminated-value (inside (osc between text)) e = absurd (false≢true e)
+terminated-value (inside (sos_pm_apc between kind text)) e = refl
 
 -- the end of a log: a character that is begun is broken off
 pub break_in-inside : (state : State) → is_inside state ≡ true → break_in state ≡ []

@@ -1,8 +1,8 @@
-//! Streams that are taken as a reader of logs reads them: a byte that belongs to no character is U+FFFD, and BEL ends
-//! the strings that terminals ignore.
+//! Streams that are taken as a reader of logs reads them: a byte that belongs to no character is U+FFFD, 9C is text of
+//! strings, and BEL ends those that terminals ignore.
 ghost use Rattle.std.specs.Prelude.{◌≡◌, ◌≤◌, ◌-◌, ◌∷◌, ◌++◌, [], ℕ, IsTrue, List, length};
 ghost use Rattle.anstyle_parse.specs.Stream.Call.{Goes};
-ghost use Rattle.anstyle_parse.specs.Machine.AsRead.{is_stray, is_break, is_at_ground, is_in_ignored_string};
+ghost use Rattle.anstyle_parse.specs.Machine.AsRead.{is_stray, heard, is_break, is_at_ground, is_in_ignored_string, is_in_terminated_string};
 ghost use Rattle.anstyle_parse.specs.Machine.Decoder.{decoded};
 ghost use Rattle.anstyle_parse.specs.Views.Accumulator.{front_of, parser_after};
 ghost use Rattle.anstyle_parse.specs.Views.AsRead.{read_by, read_one, LeadsAsReadTo, PassBytes};
@@ -24,16 +24,35 @@ use crate::utf8::{Front, Taken};
 /// U+FFFD, in UTF-8.
 const REPLACEMENT: [u8; 3] = [0xEF, 0xBF, 0xBD];
 
+/// ST, which ends a string, in 7 bits.
+const STRING_END: [u8; 2] = [ESCAPE, b'\\'];
+
+/// What is read for 9C in a string: another byte of text, with which a character of which 9C is a byte stays one.
+const TEXT_BYTE: u8 = 0x9D;
+
 /// A byte that breaks each character, and begins none.
 const BREAK: u8 = 0xFF;
 
-/// A byte that is no control and begins no character: A0..C1 and F5..FF.
+/// A byte from 80 on that begins no character: 80..C1 and F5..FF.
 #[inline(always)]
 #[tactic(auto, unfolding(crate::specs::Stream::Bytes::is_within, crate::specs::Machine::AsRead::is_stray))]
 fn is_stray(byte: u8) -> bool
     ensures { result ≡ is_stray byte }
 {
-    matches!(byte, 0xA0..=0xC1 | 0xF5..=0xFF)
+    matches!(byte, 0x80..=0xC1 | 0xF5..=0xFF)
+}
+
+/// What is read for a byte of a string's text.
+#[inline(always)]
+#[tactic(auto, unfolding(crate::specs::Machine::AsRead::heard))]
+fn heard(byte: u8) -> u8
+    ensures { result ≡ heard byte }
+{
+    if byte == STRING_TERMINATOR {
+        TEXT_BYTE
+    } else {
+        byte
+    }
 }
 
 /// Whether a byte breaks a character of which this has come.
@@ -84,7 +103,7 @@ impl Parser<Utf8Parser> {
     ghost use Rattle.anstyle_parse.specs.Views.Parser.{machine_of, calls_made, IsAfter, IsAtFields};
 
     /// Takes bytes, as [`advance_heeded`](Parser::advance_heeded) does, but as a reader of logs reads them: a byte
-    /// A0..FF that belongs to no character is U+FFFD, and BEL ends a string APC, PM or SOS.
+    /// 80..FF that belongs to no character is U+FFFD, 9C ends no string, and BEL ends a string APC, PM or SOS.
     ///
     /// A stream may come in any pieces, but all by this call.
     #[inline]
@@ -283,7 +302,7 @@ impl Parser<Utf8Parser> {
         ensures within { length result.now ≤ length behind.now }
     {
         if !Run::OfHookedString.has(first) {
-            self.step_after_puts(performer, first);
+            self.step_after_puts(performer, heard(first));
             return behind;
         }
         self.take_whole_read_run(performer, Run::OfHookedString, first, behind)
@@ -381,7 +400,9 @@ impl Parser<Utf8Parser> {
         if self.is_at_ground(byte) && is_stray(byte) {
             self.take_bytes(performer, &REPLACEMENT);
         } else if byte == BELL && self.is_in_ignored_string() {
-            self.step(performer, STRING_TERMINATOR);
+            self.take_bytes(performer, &STRING_END);
+        } else if self.is_in_terminated_string() {
+            self.step(performer, heard(byte));
         } else {
             self.step(performer, byte);
         }
@@ -405,5 +426,16 @@ impl Parser<Utf8Parser> {
         ensures { result ≡ is_in_ignored_string self.now.state }
     {
         matches!(self.state, State::SosPmApcString)
+    }
+
+    /// Whether the parser is inside a string that the byte 9C would end.
+    #[inline(always)]
+    fn is_in_terminated_string(&self) -> bool
+        ensures { result ≡ is_in_terminated_string self.now.state }
+    {
+        matches!(
+            self.state,
+            State::DcsIgnore | State::DcsPassthrough | State::SosPmApcString
+        )
     }
 }

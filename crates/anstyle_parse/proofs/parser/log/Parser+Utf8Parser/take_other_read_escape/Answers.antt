@@ -45,7 +45,7 @@ returns-in-Some-clause-leads g c =
     c.args.first c.args.behind.now (read_one-ground c.args.self.now c.args.first c.requires.ground (omega (arith, c.requires.escape))) c.step_by_answer.ensures.machine c.step_by_answer.ensures.calls)
     (LeadsAsReadTo-trans g.P.Perform.means n.receives m.follows
     (LeadsAsReadTo-byte g.P.Perform.means n.receives m.follows c.step_by_answer.new.self c.step_by_answer-in-Some.new.self c.step_by_answer.new.performer c.step_by_answer-in-Some.new.performer
-    c.in-Some.next.now c.in-Some.text.now (read_one-in c.step_by_answer.new.self Escape c.in-Some.next.now escape refl refl)
+    c.in-Some.next.now c.in-Some.text.now (read_one-in c.step_by_answer.new.self Escape c.in-Some.next.now escape refl refl refl)
     c.step_by_answer-in-Some.ensures.machine c.step_by_answer-in-Some.ensures.calls)
     c.take_read_command.ensures.leads)
 

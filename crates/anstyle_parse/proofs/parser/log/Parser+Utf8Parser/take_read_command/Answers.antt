@@ -19,5 +19,5 @@ returns-clause-leads g c =
     c.args.bytes.now c.store_text-rest.result.now c.requires c.store_text-rest.ensures.leads in
     LeadsAsReadTo-first g.P.Perform.means n.receives m.follows c.in-Some.ensures.cases.0 stored
     (LeadsAsReadTo-byte g.P.Perform.means n.receives m.follows c.store_text-rest.new.self c.step_in_command.new.self c.args.performer.now c.step_in_command.new.performer
-    c.in-Some.control.now c.in-Some.behind.now (read_one-in c.store_text-rest.new.self OscString c.in-Some.control.now c.store_text-rest.ensures.command refl refl)
+    c.in-Some.control.now c.in-Some.behind.now (read_one-in c.store_text-rest.new.self OscString c.in-Some.control.now c.store_text-rest.ensures.command refl refl refl)
     c.step_in_command.ensures.machine c.step_in_command.ensures.calls)

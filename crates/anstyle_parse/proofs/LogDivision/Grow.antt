@@ -1,18 +1,18 @@
 -- The division of a log, computed from left to right: BEL ends a string that is ignored, 9C ends no string, and each other
 -- byte does as in any bytes.
-use Rattle.std.proofs.Common.{◌≡◌, ℕ, Bool, true, false, eqb, eqb-true, List, [], ◌∷◌, ◌++◌, map, IsTrue, refl, sym, ap, ◌∙◌, subst, append_assoc, append-nil, ⊎_elim}
+use Rattle.std.proofs.Common.{◌≡◌, ℕ, Bool, true, false, eqb, eqb-true, List, [], ◌∷◌, ◌++◌, IsTrue, refl, sym, ap, ◌∙◌, subst, append_assoc, append-nil}
 use Rattle.std.specs.Prelude.{⊤, not, if◌then◌else◌}
 use Rattle.std.specs.List.{AllByRecursion, list_any}
-use Rattle.std.proofs.lemmas.Bool.{cases_Bool, cond-true, cond-false, not_from_false}
+use Rattle.std.proofs.lemmas.Bool.{cond-true, cond-false, not_from_false}
 use Rattle.std.proofs.lemmas.List.{map-append}
 use Rattle.anstyle_parse.specs.Stream.Bytes.{is_escape, is_cancel, is_intermediate, bell, string_terminator, escape_byte}
 use Rattle.anstyle_parse.specs.Stream.Characters.{is_well_formed, is_proper_front}
 use Rattle.anstyle_parse.specs.Stream.Arguments.{significant, has_shape}
-use Rattle.anstyle_parse.specs.Stream.Items.{Body, escape, csi, dcs_header, dcs, dcs_ignored, osc, sos_pm_apc, End, complete, cancelled, broken_off, unfinished, Item, single, character, broken, begun, sequence, item_text, items_text, body_text, EachIs, IsBody, completes, is_text_byte, MayPrecede, IsEnd, IsItem}
-use Rattle.anstyle_parse.specs.Laws.LogItems.{heard_text, heard_body, HasNoBell, completes_in_log, IsEndInLog, IsItemOfLog, IsLogDivision}
+use Rattle.anstyle_parse.specs.Stream.Items.{Body, escape, csi, dcs_header, dcs, dcs_ignored, osc, sos_pm_apc, End, complete, cancelled, broken_off, unfinished, Item, single, character, broken, begun, sequence, item_text, items_text, body_text, EachIs, IsBody, is_text_byte, MayPrecede, IsEnd, IsItem}
+use Rattle.anstyle_parse.specs.Laws.LogItems.{heard_text, heard_body, HasNoBell, IsEndInLog, IsItemOfLog, IsLogDivision}
 use Rattle.anstyle_parse.specs.Machine.AsRead.{heard}
 use Rattle.anstyle_parse.proofs.Bytes.Classes.{Class, esc_byte, cancel_byte, intermediate_byte, digit_byte, colon_byte, semicolon_byte, marker_byte, device_byte, string_byte, control_introducer, command_byte, final_byte, terminator_byte, bell_byte, lead_byte, class_of, is_escape_at, is_cancel_at, is_string_text_at, is_bell_at, is_terminator_at, is_escape-class, is_cancel-class, is_string_text-class, is_bell-class, is_terminator-class}
-use Rattle.anstyle_parse.proofs.Bytes.Passing.{EachIs-push, EachIs-parts}
+use Rattle.anstyle_parse.proofs.Bytes.Passing.{EachIs-push}
 use Rattle.anstyle_parse.proofs.Characters.Tests.{IsProperFront-test}
 use Rattle.anstyle_parse.proofs.Division.Exists.{IsOpen, Grown-grow, AreJoinedTo}
 use Rattle.anstyle_parse.proofs.Division.Grow.{Open, nothing, front, inside, Growth, more, done, start, break_off, into, ended, introduce, grow_escape, grow_control, grow_device, grow_command, grow_within, grow_body, grow, last_items, open_text}

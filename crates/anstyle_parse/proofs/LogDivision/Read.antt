@@ -1,6 +1,6 @@
 -- What is read of a log, byte by byte, is what is read of the items of its division.
 use Rattle.std.proofs.Common.{◌≡◌, ℕ, Bool, true, false, eqb, eqb-true, List, [], ◌∷◌, ◌++◌, refl, sym, ap, ◌∙◌, subst, append_assoc, append-nil, ⊎_elim}
-use Rattle.std.specs.Prelude.{◌&&◌, if◌then◌else◌, ⊤}
+use Rattle.std.specs.Prelude.{◌&&◌, if◌then◌else◌}
 use Rattle.std.specs.List.{AllByRecursion, list_any}
 use Rattle.std.proofs.lemmas.Bool.{cases_Bool, cond-true, cond-false, and_left, and_parts, false≢true}
 use Rattle.std.proofs.lemmas.Grind.{flat_map-append}
@@ -12,12 +12,12 @@ use Rattle.anstyle_parse.specs.Stream.Bytes.{is_escape, is_intermediate, bell, s
 use Rattle.anstyle_parse.specs.Stream.Arguments.{significant}
 use Rattle.anstyle_parse.specs.Stream.Characters.{is_well_formed, is_proper_front, character_of, replacement}
 use Rattle.anstyle_parse.specs.Stream.Items.{Body, escape, csi, dcs_header, dcs, dcs_ignored, osc, sos_pm_apc, End, complete, cancelled, broken_off, unfinished, Item, single, character, broken, begun, sequence, body_text, end_text, item_text, items_text}
-use Rattle.anstyle_parse.specs.Laws.LogItems.{heard_text, heard_body, read_end, read_item, read_items, read_item_whole, read_items_whole}
+use Rattle.anstyle_parse.specs.Laws.LogItems.{heard_body, read_end, read_item, read_items, read_item_whole, read_items_whole}
 use Rattle.anstyle_parse.specs.Machine.AsRead.{is_stray, is_break, is_at_ground, is_in_ignored_string, is_in_terminated_string, replacement_text, string_end, heard, read_for, read_from, as_read, as_read_whole, break_in}
 use Rattle.anstyle_parse.specs.Machine.Decoder.{decoded}
 use Rattle.anstyle_parse.specs.Machine.Stands.{counted}
 use Rattle.anstyle_parse.specs.Machine.Step.{Machine, step, machine_after}
-use Rattle.anstyle_parse.proofs.Agreement.Values.{Phase, at_entry, misfit, phase_of, fits, fits-phase_of, control_value, device_value, registers, escape_state, body_value, value_at}
+use Rattle.anstyle_parse.proofs.Agreement.Values.{Phase, misfit, phase_of, fits, fits-phase_of, device_value, registers, body_value, value_at}
 use Rattle.anstyle_parse.proofs.Agreement.Whole.{value_at-step, counted-counted, machine_after-append}
 use Rattle.anstyle_parse.proofs.Bytes.Classes.{Class, bell_byte, cancel_byte, esc_byte, terminator_byte, silent_byte, class_below, class_of, is_bell_at, is_escape_at, is_terminator_at, is_bell-class, is_escape-class, is_terminator-class}
 use Rattle.anstyle_parse.proofs.Canonical.TextLength.{body-inside}

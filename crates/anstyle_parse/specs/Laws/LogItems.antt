@@ -4,7 +4,7 @@
 -- BEL ends the last three. What is read of it is the text of its items, but for three things: a byte 80..C1 or F5..FF
 -- that is an item by itself, and so stands in no character and in no sequence, is U+FFFD; of the BEL that ends such a
 -- string ESC \ is read; and of 9C in the text of a string 9D.
-use Rattle.std.specs.Prelude.{◌≡◌, ℕ, Bool, false, ◌||◌, not, ◌==◌, List, [], ◌∷◌, ◌++◌, map, IsTrue, ⊤, if◌then◌else◌}
+use Rattle.std.specs.Prelude.{◌≡◌, ℕ, Bool, false, not, ◌==◌, List, [], ◌∷◌, ◌++◌, map, IsTrue, ⊤, if◌then◌else◌}
 use Rattle.std.specs.List.{AllByRecursion, flat_map}
 use Rattle.anstyle_parse.specs.Stream.Bytes.{is_cancel, bell}
 use Rattle.anstyle_parse.specs.Stream.Items.{Body, dcs, dcs_ignored, sos_pm_apc, End, complete, cancelled, broken_off, unfinished, Item, single, begun, sequence, body_text, item_text, items_text, EachIs, IsBody, completes, IsItem, AreJoined}

@@ -20,12 +20,12 @@ READ_ROWS = [
     ("bytes of none in sequences and strings", b"\x1b]0;\xe4\xff\x07a\x1b_\xa0\xff\x07b\x1bP1q\xc0\x9c\x1b\\c\x1b[\xa01md\x1b\xff7e\n", b"abcde\n"),
     ("four lines with stamps", STAMPED, b"~~~ Running make\n$ make\nok\ndone\n"),
     ("BEL that ends PM and SOS", b"\x1b^a\x07b\x1bXc\x07d\n", b"bd\n"),
-    ("ST after it, and the other ends", b"\x1b_a\x07b\x1b\\c\x1b_d\x1b\\e\x1b_f\x18g\n", b"bceg\n"),
+    ("ST after it, and the other ends", b"\x1b_a\x07b\x1b\\c\x1b_d\x1b\\e\x1b_f\x1b7g\n", b"bceg\n"),
     ("BEL in a device control string", b"\x1bPq\x07a\x1b\\b\n", b"b\n"),
     ("a check mark in APC", "x\x1b_G\u2713 left\x1b\\y\n".encode(), b"xy\n"),
     ("in PM, SOS and a hooked string", "a\x1b^\u2713b\x07c\x1bX\u2713d\x07e\x1bPq\u2713f\x1b\\g\n".encode(), b"aceg\n"),
     ("in strings that are ignored", "a\x1bP1<q\u2713b\x1b\\c\x1bP \u2713qd\u2713\x1b\\e\n".encode(), b"ace\n"),
-    ("9C alone in strings", b"a\x1b_b\x9cc\x1b\\d\x1bPqe\x9cf\x18g\x1b]0;h\x9ci\x07j\n", b"adgj\n"),
+    ("9C alone in strings", b"a\x1b_b\x9cc\x1b\\d\x1bPqe\x9cf\x1b\\g\x1b]0;h\x9ci\x07j\n", b"adgj\n"),
 ]
 
 # at the end of a stream

@@ -3,13 +3,12 @@
 import itertools
 import re
 
-# A string that is open at the end: OSC up to BEL; SOS, PM and APC up to BEL or 9C, and DCS after its header up to 9C; all up to
-# ESC, CAN and SUB (ECMA-48, 8.3.27 and others; xterm's ctlseqs, "Operating System Commands"; as a reader of logs reads them).
+# A string that is open at the end: OSC, SOS, PM and APC up to BEL, and these and DCS after its header up to ESC, CAN and SUB (ECMA-48,
+# 8.3.27 and others; xterm's ctlseqs, "Operating System Commands"; as a reader of logs reads them, in UTF-8).
 OPEN_STRING = re.compile(
-    rb"\x1b[^\x18\x1a\x1b\x20-\x7e]*(?:\][^\x07\x18\x1a\x1b]*|[X^_][^\x07\x18\x1a\x1b\x9c]*"
-    rb"|P[^\x18\x1a\x1b\x40-\x7e]*[\x40-\x7e][^\x18\x1a\x1b\x9c]*)\Z"
+    rb"\x1b[^\x18\x1a\x1b\x20-\x7e]*(?:[]X^_][^\x07\x18\x1a\x1b]*|P[^\x18\x1a\x1b\x40-\x7e]*[\x40-\x7e][^\x18\x1a\x1b]*)\Z"
 )
-ENDS = b"\x07\x18\x1a\x9c"
+ENDS = b"\x07\x18\x1a"
 FRONT = 4096  # bytes of a sequence, within which its string has begun in each stream of the tests
 
 

@@ -1,4 +1,5 @@
 pub mod Facts
+pub mod Kept
 pub mod Answering
 pub mod AnsweringProof
 pub mod Laws

@@ -24,7 +24,14 @@ pub struct Answering {
     /// The setting that is being asked for.
     pub request: Request,
     pub waiting: Waiting,
+    /// Whether rows that ED and RIS take away with all of the screen are kept, as those that scroll off are.
+    pub keeps_erased: bool,
 }
+
+/// The final bytes of ED, a control sequence, and of RIS, an escape sequence.
+const ERASE: u8 = b'J';
+
+const RESET: u8 = b'c';
 
 /// What is read of a screen to answer.
 pub fn facts_of(screen: &Screen) -> Facts
@@ -50,10 +57,12 @@ pub fn facts_of(screen: &Screen) -> Facts
 }
 
 impl Answering {
-    ghost use Rattle.ansi_screen.specs.After.{as_shown};
+    ghost use Rattle.anstyle_parse.specs.Stream.Call.{csi_dispatch, esc_dispatch};
+    ghost use Rattle.ansi_screen.specs.After.{after, as_shown};
+    ghost use Rattle.ansi_screen.specs.Leaving.{with_kept};
     ghost use Rattle.screen_answers.specs.Answering.{new_answering, with_sequence, with_command, with_setting};
 
-    /// A screen of which nothing was asked yet.
+    /// A screen of which nothing was asked yet, and which keeps all rows that leave it.
     pub fn new(screen: Screen, links: LinkTable, theme: Theme) -> Answering
         ensures { result ≡ new_answering screen links theme }
     {
@@ -64,6 +73,7 @@ impl Answering {
             theme,
             request: Request::Nothing,
             waiting: Waiting::new(),
+            keeps_erased: true,
         }
     }
 
@@ -79,7 +89,43 @@ impl Answering {
             theme: self.theme.copy(),
             request: self.request,
             waiting: self.waiting.copy(),
+            keeps_erased: self.keeps_erased,
         })
+    }
+
+    /// The screen takes a control sequence, and keeps no row that leaves by it.
+    #[cold]
+    #[inline(never)]
+    fn control_unkept(&mut self, params: &Params, intermediates: &[u8], ignore: bool, action: u8)
+        ensures { self.new ≡ record self.old {
+          screen = with_kept self.old.screen.display.history
+              (after (csi_dispatch (groups_shown params.now) intermediates.now ignore action) self.old.screen);
+        } }
+    {
+        // (for the proof: it is within its sizes)
+        let _ = self.screen.columns();
+        let mut kept = None;
+        self.screen.swap_history(&mut kept);
+        self.screen
+            .csi_dispatch(params, intermediates, ignore, action);
+        self.screen.swap_history(&mut kept);
+    }
+
+    /// The same of an escape sequence.
+    #[cold]
+    #[inline(never)]
+    fn escape_unkept(&mut self, intermediates: &[u8], ignore: bool, byte: u8)
+        ensures { self.new ≡ record self.old {
+          screen = with_kept self.old.screen.display.history
+              (after (esc_dispatch intermediates.now ignore byte) self.old.screen);
+        } }
+    {
+        // (for the proof: it is within its sizes)
+        let _ = self.screen.columns();
+        let mut history = None;
+        self.screen.swap_history(&mut history);
+        self.screen.esc_dispatch(intermediates, ignore, byte);
+        self.screen.swap_history(&mut history);
     }
 
     /// Answers a control sequence.
@@ -163,8 +209,12 @@ impl Perform for Answering {
     fn csi_dispatch(&mut self, params: &Params, intermediates: &[u8], ignore: bool, action: u8) {
         self.asked
             .csi_dispatch(params, intermediates, ignore, action);
-        self.screen
-            .csi_dispatch(params, intermediates, ignore, action);
+        if intermediates.is_empty() && action == ERASE && !self.keeps_erased {
+            self.control_unkept(params, intermediates, ignore, action);
+        } else {
+            self.screen
+                .csi_dispatch(params, intermediates, ignore, action);
+        }
         if may_be_answered(action) {
             self.answer_sequence(params, intermediates, ignore, action);
         }
@@ -173,7 +223,11 @@ impl Perform for Answering {
     #[inline(always)]
     fn esc_dispatch(&mut self, intermediates: &[u8], ignore: bool, byte: u8) {
         self.asked.esc_dispatch(intermediates, ignore, byte);
-        self.screen.esc_dispatch(intermediates, ignore, byte);
+        if intermediates.is_empty() && byte == RESET && !self.keeps_erased {
+            self.escape_unkept(intermediates, ignore, byte);
+        } else {
+            self.screen.esc_dispatch(intermediates, ignore, byte);
+        }
     }
 }
 

@@ -424,12 +424,21 @@ impl Screen {
     ///
     /// # Errors
     /// As [`Screen::new`].
-    pub fn with_scrolled_history(columns: usize, rows: usize, history: usize) -> Result<Screen, CannotOpen> {
+    pub fn with_scrolled_history(
+        columns: usize,
+        rows: usize,
+        history: usize,
+    ) -> Result<Screen, CannotOpen> {
         Screen::open(columns, rows, history, 1)
     }
 
     /// A screen with these options.
-    fn open(columns: usize, rows: usize, history: usize, drops_erased: usize) -> Result<Screen, CannotOpen> {
+    fn open(
+        columns: usize,
+        rows: usize,
+        history: usize,
+        drops_erased: usize,
+    ) -> Result<Screen, CannotOpen> {
         let options = Options {
             history,
             drops_erased,

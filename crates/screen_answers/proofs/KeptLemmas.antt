@@ -1,6 +1,6 @@
 -- What is kept of the rows that leave a screen changes nothing else of it.
 use Rattle.std.proofs.Common.{◌≡◌, ◌≤◌, Bool, true, false, List, [], ◌∷◌, ◌++◌, refl, sym, ap, ap₂, ◌∙◌, append_assoc, append-nil, subst}
-use Rattle.std.specs.Prelude.{Option, None, not, ◌||◌, if◌then◌else◌}
+use Rattle.std.specs.Prelude.{Option, not, ◌||◌, if◌then◌else◌}
 use Rattle.anstyle_parse.specs.Stream.Call.{Call}
 use Rattle.ansi_screen.specs.declared.cell.Cell.{Cell}
 use Rattle.ansi_screen.specs.After.{State, after, after_all}

@@ -2,7 +2,7 @@
 --
 -- Sources: xterm's manual page, `cdXtraScroll` (false: what ED erases is not saved); libvterm's `vterm.h`, `sb_pushline`,
 -- which is called where lines scroll.
-use Rattle.std.specs.Prelude.{ℕ, Bool, false, not, ◌||◌, ◌&&◌, ◌==◌, List, [], ◌∷◌, ◌++◌, length, if◌then◌else◌}
+use Rattle.std.specs.Prelude.{Bool, false, not, ◌||◌, ◌&&◌, ◌==◌, List, [], ◌∷◌, ◌++◌, length, if◌then◌else◌}
 use Rattle.anstyle_parse.specs.Stream.Call.{Call, csi_dispatch, esc_dispatch}
 use Rattle.ansi_screen.specs.declared.cell.Cell.{Cell}
 use Rattle.ansi_screen.specs.After.{State, after}

@@ -149,8 +149,9 @@ typedef struct ansi_place {
 
 /* What a screen keeps beside what it shows, in 64 bytes: zero bytes are nothing (`= {0}` in C, `= {}` in C++). */
 typedef struct ansi_screen_options {
-    size_t history;     /* so many of the last rows that leave it, of about 40 bytes a cell */
-    size_t reserved[7]; /* 0 */
+    size_t history;      /* so many of the last rows that leave it, of about 40 bytes a cell */
+    size_t drops_erased; /* 0: of all, as VTE and kitty. Else of those alone that scroll off, as xterm and libvterm */
+    size_t reserved[6];  /* 0 */
 } ansi_screen_options;
 
 /* What can be asked for, by the bits of ansi_screen_asked. */
@@ -410,7 +411,8 @@ bool ansi_screen_focus(ansi_screen *screen, unsigned char gained, unsigned char 
 /* Rows that leave the screen are those that scroll off at its top, where the upper margin is the first row; and where ED 2,
  * ED 0 at its first cell or RIS takes away all of the main screen, its rows up to the last in which something was printed. Not
  * those that are deleted or erased otherwise, nor those of the alternate screen. Of as many as were asked for the last are kept. A reset
- * (ansi_screen_reset) forgets them. */
+ * (ansi_screen_reset) forgets them. With `drops_erased` rows that ED or RIS takes away are not kept, do not count as rows that left,
+ * and leave those alone that are kept. */
 
 /* Writes how many rows are kept, and how many have left since the screen was opened or reset. */
 bool ansi_screen_history(ansi_screen *screen, size_t *kept, size_t *left);

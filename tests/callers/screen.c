@@ -637,6 +637,40 @@ static void rows_that_left(void)
     close_screen(&it);
 }
 
+/* With `drops_erased` those alone that scroll off: not those that ED 2, ED 0 at the first cell, or RIS takes away. */
+static void rows_that_scrolled(void)
+{
+    ansi_screen it = {0}, copied = {0};
+    ansi_screen_options options;
+
+    memset(&options, 0, sizeof options);
+    options.history = 3;
+    options.drops_erased = 1;
+    expect(open_with(&it, 4, 2, &options), "a screen opens that keeps what scrolls off");
+    feed_text(&it, "a\r\nb\r\nc\033[2J");
+    expect(counts_are(&it, 1, 1), "one has scrolled off, and none leaves by ED 2");
+    shows(&it, "", "which erases all");
+    feed_text(&it, "\033[Hd\r\ne\033[H\033[J");
+    expect(counts_are(&it, 1, 1), "nor by ED 0 at the first cell");
+    feed_text(&it, "f\r\ng\r\nh");
+    expect(copy_of(&copied, &it) && counts_are(&copied, 2, 2), "a copy keeps them");
+    feed_text(&it, "\033c");
+    expect(counts_are(&it, 2, 2), "nor by RIS");
+    shows(&it, "", "which erases all too");
+    feed_text(&it, "i\r\nj\r\nk");
+    expect(counts_are(&it, 3, 3), "and those that scroll off go on");
+    kept_is(&it, 0, "a");
+    kept_is(&it, 1, "f");
+    kept_is(&it, 2, "i");
+    feed_text(&copied, "\033[2J");
+    expect(counts_are(&copied, 2, 2), "a copy drops what is erased as well");
+    expect(reset(&it), "a reset leaves a new one");
+    feed_text(&it, "a\033c\r\n\n");
+    expect(counts_are(&it, 1, 1), "which keeps as much");
+    close_screen(&copied);
+    close_screen(&it);
+}
+
 /* (the room that the header tells is enough for any link) */
 static void link_is(ansi_screen *screen, uint32_t number, const char *wanted)
 {
@@ -800,6 +834,7 @@ int main(int count, char **words)
     pieces();
     resets();
     rows_that_left();
+    rows_that_scrolled();
     drawings();
     equality();
     copies();

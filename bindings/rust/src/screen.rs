@@ -20,9 +20,9 @@
 //!
 //! It can't be resized: [`events`](crate::events) of the same bytes tell what asks for that.
 //!
-//! Its library takes memory by `malloc`: in [`Screen::new`], [`Screen::with_history`] and [`Screen::try_clone`], and in
-//! [`Screen::draw`], [`Screen::update`], [`Screen::to_html`], [`Screen::key`], [`Screen::mouse`], [`Screen::paste`] and
-//! [`Screen::focus`] while they work.
+//! Its library takes memory by `malloc`: in [`Screen::new`], [`Screen::with_history`], [`Screen::with_scrolled_history`] and
+//! [`Screen::try_clone`], and in [`Screen::draw`], [`Screen::update`], [`Screen::to_html`], [`Screen::key`], [`Screen::mouse`],
+//! [`Screen::paste`] and [`Screen::focus`] while they work.
 
 mod answers;
 mod keys;
@@ -94,7 +94,8 @@ struct ModeBytes {
 #[repr(C)]
 struct Options {
     history: usize,
-    reserved: [usize; 7],
+    drops_erased: usize,
+    reserved: [usize; 6],
 }
 
 #[link(name = "ansi_screen", kind = "static")]
@@ -409,14 +410,39 @@ impl Screen {
         Screen::with_history(columns, rows, 0)
     }
 
-    /// The same, which keeps so many of the last rows that leave it at the top.
+    /// The same, which keeps so many of the last rows that leave it: at the top, or erased with all of it by ED 2, ED 0 at its first
+    /// cell or RIS, as VTE and kitty keep them.
     ///
     /// # Errors
     /// As [`Screen::new`].
     pub fn with_history(columns: usize, rows: usize, history: usize) -> Result<Screen, CannotOpen> {
+        Screen::open(columns, rows, history, 0)
+    }
+
+    /// The same, which keeps so many of the last rows that scroll off at the top alone, as xterm and libvterm do: those that are erased
+    /// are kept nowhere, and [`Screen::left_count`] does not count them.
+    ///
+    /// # Errors
+    /// As [`Screen::new`].
+    pub fn with_scrolled_history(
+        columns: usize,
+        rows: usize,
+        history: usize,
+    ) -> Result<Screen, CannotOpen> {
+        Screen::open(columns, rows, history, 1)
+    }
+
+    /// A screen with these options.
+    fn open(
+        columns: usize,
+        rows: usize,
+        history: usize,
+        drops_erased: usize,
+    ) -> Result<Screen, CannotOpen> {
         let options = Options {
             history,
-            reserved: [0; 7],
+            drops_erased,
+            reserved: [0; 6],
         };
         let screen = Screen::holding_none(columns, rows);
         if !unsafe { ansi_screen_open_with(screen.handle(), columns, rows, &raw const options) } {

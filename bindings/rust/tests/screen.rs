@@ -150,6 +150,18 @@ fn rows_that_left_are_kept() {
 }
 
 #[test]
+fn rows_that_are_erased_are_kept_or_not() {
+    for (mut screen, kept, left) in [
+        (Screen::with_history(4, 2, 3).unwrap(), ["b", "c", "d"], 4),
+        (Screen::with_scrolled_history(4, 2, 3).unwrap(), ["a", "d", ""], 2),
+    ] {
+        screen.feed(b"a\r\nb\r\nc\x1b[2J\x1b[Hd\r\n\r\n");
+        assert_eq!([0, 1, 2].map(|number| screen.history_text(number)), kept);
+        assert_eq!((screen.left_count(), screen.text().as_str()), (left, ""));
+    }
+}
+
+#[test]
 fn links_and_html() {
     let screen = shown(10, 3, "\x1b]8;;http://x\x1b\\l\x1b]8;;\x1b\\<");
     let link = screen.cell(0, 0).unwrap().link;

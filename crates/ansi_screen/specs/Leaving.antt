@@ -11,6 +11,10 @@ use Rattle.ansi_screen.specs.Display.{IsSized}
 use Rattle.ansi_screen.specs.History.{Kept, nothing_kept}
 use Rattle.ansi_screen.specs.After.{State, after, after_all}
 
+-- the same screen, which keeps other rows that left it, or none
+abbrev pub with_kept : Option Kept → State → State
+with_kept history s = record s { display = record s.display { history = history } }
+
 -- the same screen, which keeps no rows that leave it
 abbrev pub unkept : State → State
 unkept s = record s { display = record s.display { history = None } }

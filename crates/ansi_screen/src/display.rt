@@ -21,6 +21,7 @@ use crate::tabs::reset_stops;
 pub(crate) use performer::first_of;
 use std::alloc::{AllocError, Global};
 use std::marker::Model;
+use std::mem;
 
 /// Cells in rows, the cursor, margins, tabs and modes, and the alternate screen.
 #[derive(Drop)]
@@ -131,6 +132,7 @@ impl Display {
     ghost use Rattle.std.specs.Option.{option_map};
     ghost use Rattle.ansi_screen.specs.Display.{fresh, forgotten, IsSized, row_cells};
     ghost use Rattle.ansi_screen.specs.History.{nothing_kept};
+    ghost use Rattle.ansi_screen.specs.Damage.{HasHistory};
     ghost use Rattle.ansi_screen.specs.Grid.{IsBlankFrom};
 
     /// A blank screen of so many columns and rows, with the cursor at its top left. `Err` means
@@ -224,6 +226,16 @@ impl Display {
         if let Some(history) = &mut self.history {
             history.clear();
         }
+    }
+
+    /// What it keeps of the rows that left, and what is handed to it, of its width too, change places.
+    pub(crate) fn swap_history(&mut self, history: &mut Option<History>)
+        requires { HasHistory self.old.width history.old }
+        ensures kept { self.new ≡ record self.old { history = history.old } }
+        ensures taken { history.new ≡ self.old.history }
+        ensures columns { HasHistory self.old.width history.new }
+    {
+        mem::swap(&mut self.history, history);
     }
 
     /// It keeps the last `most` of the rows that leave it from now on, and those no longer that it kept. `Err` means

@@ -67,9 +67,9 @@ impl Screen {
     ghost use Rattle.std.specs.Option.{option_map};
     ghost use Rattle.ansi_screen.specs.Edits.{swapped};
     ghost use Rattle.ansi_screen.specs.History.{nothing_kept};
-    ghost use Rattle.ansi_screen.specs.Leaving.{all_left, with_room_alone};
+    ghost use Rattle.ansi_screen.specs.Leaving.{all_left, with_room_alone, with_kept};
     ghost use Rattle.ansi_screen.specs.Following.{following, IsShownOf, HasSizeOf};
-    ghost use Rattle.ansi_screen.specs.Damage.{KeepsColumns};
+    ghost use Rattle.ansi_screen.specs.Damage.{KeepsColumns, HasHistory};
 
     /// A blank screen of so many columns and rows, with the cursor at its top left. `Err` means
     /// that memory is wanting.
@@ -134,6 +134,17 @@ impl Screen {
         ensures { self.new ≡ with_room_alone self.old }
     {
         self.display.clear_history();
+    }
+
+    /// What it keeps of the rows that left, and what is handed to it, change places: so rows that leave meanwhile can be
+    /// kept elsewhere, or nowhere.
+    pub fn swap_history(&mut self, history: &mut Option<History>)
+        requires { HasHistory self.old.display.width history.old }
+        ensures kept { self.new ≡ with_kept history.old self.old }
+        ensures taken { history.new ≡ self.old.display.history }
+        ensures columns { HasHistory self.old.display.width history.new }
+    {
+        self.display.swap_history(history);
     }
 
     /// It keeps the last `most` of the rows that leave it from now on, and those no longer that it kept. `Err` means

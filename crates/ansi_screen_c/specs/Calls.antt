@@ -1,5 +1,5 @@
 -- What the calls from C do.
-use Rattle.std.specs.Prelude.{◌≡◌, ◌⊎◌, ⊤, ℕ, List, [], Option, None, Some, IsUtf8}
+use Rattle.std.specs.Prelude.{◌≡◌, ◌⊎◌, ⊤, ℕ, Bool, List, [], Option, None, Some, IsUtf8}
 use Rattle.ansi_screen.specs.After.{new_state}
 use Rattle.ansi_screen.specs.Display.{Display}
 use Rattle.screen_pieces.specs.declared.terminal.Terminal.{Terminal}
@@ -24,9 +24,9 @@ IsNoneOr P (Some terminal) = P terminal
 abbrev pub Opens : (columns rows : ℕ) → Option Terminal → Type 0
 Opens columns rows held = Holds (StandsAfter (new_state columns rows) []) held
 
--- The same, and so many of the rows that leave it are kept.
-abbrev pub OpensWith : (columns rows history : ℕ) → Option Terminal → Type 0
-OpensWith columns rows history held = Holds (IsNew columns rows history) held
+-- The same, and so many of the rows that leave it are kept: of all, or of those that ED and RIS do not take away.
+abbrev pub OpensWith : (columns rows history : ℕ) (keeps_erased : Bool) → Option Terminal → Type 0
+OpensWith columns rows history keeps_erased held = Holds (IsNew columns rows history keeps_erased) held
 
 -- A screen was held, and one is held now: they are related so.
 abbrev pub Both : (Terminal → Terminal → Type 0) → Option Terminal → Option Terminal → Type 0

@@ -1,5 +1,5 @@
 //! Rows that left the screen, for C.
-ghost use Rattle.std.specs.Prelude.{◌≡◌, ◌<◌, ◌⊎◌, None, length};
+ghost use Rattle.std.specs.Prelude.{◌≡◌, ◌==◌, ◌<◌, ◌⊎◌, None, length};
 ghost use Rattle.std.specs.Bool.{OnTrue, OnFalse};
 ghost use Rattle.screen_pieces.specs.History.{kept_row, text_of_kept, LacksKept};
 ghost use Rattle.screen_pieces.specs.Keeping.{FeedsKeeping};
@@ -12,7 +12,7 @@ use screen_pieces::CellBytes;
 use std::alloc::Global;
 
 /// How many words of options are kept for later: they are 0.
-pub const RESERVED_OPTIONS: usize = 7;
+pub const RESERVED_OPTIONS: usize = 6;
 
 /// What a screen keeps beside what it shows.
 #[repr(C)]
@@ -20,6 +20,8 @@ pub const RESERVED_OPTIONS: usize = 7;
 pub struct Options {
     /// So many of the last rows that left it.
     pub history: usize,
+    /// 0 where rows that ED and RIS take away count among them; any other number, where these are kept nowhere.
+    pub drops_erased: usize,
     pub reserved: [usize; RESERVED_OPTIONS],
 }
 
@@ -32,11 +34,13 @@ pub extern "C" fn ansi_screen_open_with(
     rows: usize,
     options: &Options,
 ) -> bool
-    ensures opened { OnTrue result (OpensWith columns rows options.now.history screen.new.value) }
+    ensures opened { OnTrue result (OpensWith columns rows options.now.history (options.now.drops_erased == 0)
+        screen.new.value) }
     ensures none { OnFalse result (screen.new.value ≡ None) }
 {
     drop(screen.take(alloc));
-    match boxed(alloc, columns, rows, options.history) {
+    let keeps_erased = options.drops_erased == 0;
+    match boxed(alloc, columns, rows, options.history, keeps_erased) {
         None => false,
         Some(held) => {
             screen.put(held);

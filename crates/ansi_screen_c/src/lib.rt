@@ -51,19 +51,21 @@ pub(crate) fn told(answer: Result<usize, usize>, written: &mut usize) -> bool
     }
 }
 
-/// A new screen on the heap, which keeps so many of the rows that leave it.
+/// A new screen on the heap, which keeps so many of the rows that leave it: of all, or of those that ED and RIS do not
+/// take away.
 pub(crate) fn boxed(
     alloc: Global,
     columns: usize,
     rows: usize,
     history: usize,
+    keeps_erased: bool,
 ) -> Option<Box<Terminal>>
-    ensures { IfSome result (λ held. IsNew columns rows history held.value) }
+    ensures { IfSome result (λ held. IsNew columns rows history keeps_erased held.value) }
 {
     if !is_size(columns, rows) {
         return None;
     }
-    let Ok(terminal) = Terminal::with_history(alloc, columns, rows, history) else {
+    let Ok(terminal) = Terminal::with_history(alloc, columns, rows, history, keeps_erased) else {
         return None;
     };
     let Ok(held) = Box::new(alloc, terminal) else {
@@ -85,7 +87,7 @@ pub extern "C" fn ansi_screen_open(
     ensures none { OnFalse result (screen.new.value ≡ None) }
 {
     drop(screen.take(alloc));
-    match boxed(alloc, columns, rows, 0) {
+    match boxed(alloc, columns, rows, 0, true) {
         None => false,
         Some(held) => {
             screen.put(held);

@@ -1,2 +1,4 @@
+pub mod LinkLemmas
+pub mod KeptLemmas
 pub mod CallLemmas
 pub mod QuietLemmas

@@ -1,7 +1,7 @@
 -- A screen that answers, by one call after another.
-use Rattle.std.specs.Prelude.{ℕ, Bool, List, [], ◌∷◌}
+use Rattle.std.specs.Prelude.{ℕ, Bool, true, List, [], ◌∷◌}
 use Rattle.anstyle_parse.specs.Stream.Call.{Call}
-use Rattle.ansi_screen.specs.After.{State, after}
+use Rattle.ansi_screen.specs.After.{State}
 use Rattle.ansi_modes.specs.Asked.{nothing_asked, asked_after}
 use Rattle.ansi_answers.specs.declared.color.Theme.{Theme}
 use Rattle.ansi_answers.specs.declared.request.Request.TheVariants.{Nothing}
@@ -14,8 +14,9 @@ use Rattle.screen_html.specs.Links.{Table}
 use Rattle.screen_html.specs.Page.{links_by}
 use Rattle.screen_answers.specs.declared.answering.Answering.{Answering}
 use Rattle.screen_answers.specs.Facts.{facts_of}
+use Rattle.screen_answers.specs.Kept.{screen_after}
 
--- a screen of which nothing was asked yet
+-- a screen of which nothing was asked yet, and which keeps all rows that leave it
 abbrev pub new_answering : State → Table → Theme → Answering
 new_answering s links t = record {
   screen = s;
@@ -24,6 +25,7 @@ new_answering s links t = record {
   theme = t;
   request = Nothing;
   waiting = nothing_waits;
+  keeps_erased = true;
 }
 
 -- a control sequence, a command, and the end of a string are answered
@@ -41,17 +43,22 @@ with_setting t = record t {
   waiting = with_answer (setting_answer t.request (facts_of t.screen) t.asked) t.waiting;
 }
 
+-- its screen after a call
+abbrev pub shown_after : Call → Answering → State
+shown_after call t = screen_after t.keeps_erased call t.screen
+
 -- After a call. A link that begins is kept by the number then in force; and the call is answered by the screen, and by
 -- what is asked for, after it.
 abbrev pub answering_after : Call → Answering → Answering
 answering_after call t = record {
-  screen = after call t.screen;
-  links = links_by call (after call t.screen) t.links;
+  screen = shown_after call t;
+  links = links_by call (shown_after call t) t.links;
   asked = asked_after call t.asked;
   theme = t.theme;
   request = request_after call t.request;
   waiting = with_answer
-      (answer_to call t.request (facts_of (after call t.screen)) (asked_after call t.asked) t.theme) t.waiting;
+      (answer_to call t.request (facts_of (shown_after call t)) (asked_after call t.asked) t.theme) t.waiting;
+  keeps_erased = t.keeps_erased;
 }
 
 -- after a list of calls

@@ -1,6 +1,7 @@
 //! A screen, its links, what is asked for beside it, and the answers.
 ghost use Rattle.std.specs.Prelude.{◌≡◌, map, IfOk};
 ghost use Rattle.anstyle_parse.specs.Views.Params.{groups_shown};
+ghost use Rattle.screen_answers.specs.Alone.{is_alone};
 ghost use Rattle.screen_answers.specs.Facts.{facts_of};
 
 use ansi_answers::{
@@ -24,7 +25,14 @@ pub struct Answering {
     /// The setting that is being asked for.
     pub request: Request,
     pub waiting: Waiting,
+    /// Whether rows that ED and RIS take away with all of the screen are kept, as those that scroll off are.
+    pub keeps_erased: bool,
 }
+
+/// The final bytes of ED, a control sequence, and of RIS, an escape sequence.
+const ERASE: u8 = b'J';
+
+const RESET: u8 = b'c';
 
 /// What is read of a screen to answer.
 pub fn facts_of(screen: &Screen) -> Facts
@@ -49,11 +57,29 @@ pub fn facts_of(screen: &Screen) -> Facts
     }
 }
 
-impl Answering {
-    ghost use Rattle.ansi_screen.specs.After.{as_shown};
-    ghost use Rattle.screen_answers.specs.Answering.{new_answering, with_sequence, with_command, with_setting};
+/// Whether such a control sequence is one of the screen alone, which asks for nothing, is not answered and takes no rows
+/// away: so those that move the cursor or set a colour cost no more.
+#[inline(always)]
+#[tactic(auto, unfolding(crate::specs::Alone::is_alone))]
+fn is_alone(intermediates: &[u8], final_byte: u8) -> bool
+    ensures { result ≡ is_alone intermediates.now final_byte }
+{
+    if !intermediates.is_empty() {
+        false
+    } else if final_byte < b'n' {
+        !matches!(final_byte, ERASE | b'c')
+    } else {
+        !matches!(final_byte, b'n' | b'p' | b'q' | b't' | b'u')
+    }
+}
 
-    /// A screen of which nothing was asked yet.
+impl Answering {
+    ghost use Rattle.anstyle_parse.specs.Stream.Call.{csi_dispatch, esc_dispatch};
+    ghost use Rattle.ansi_screen.specs.After.{after, as_shown};
+    ghost use Rattle.ansi_screen.specs.Leaving.{with_kept};
+    ghost use Rattle.screen_answers.specs.Answering.{new_answering, with_sequence, with_command, with_setting, answering_after};
+
+    /// A screen of which nothing was asked yet, and which keeps all rows that leave it.
     pub fn new(screen: Screen, links: LinkTable, theme: Theme) -> Answering
         ensures { result ≡ new_answering screen links theme }
     {
@@ -64,6 +90,7 @@ impl Answering {
             theme,
             request: Request::Nothing,
             waiting: Waiting::new(),
+            keeps_erased: true,
         }
     }
 
@@ -79,7 +106,62 @@ impl Answering {
             theme: self.theme.copy(),
             request: self.request,
             waiting: self.waiting.copy(),
+            keeps_erased: self.keeps_erased,
         })
+    }
+
+    /// The screen takes a control sequence, and keeps no row that leaves by it.
+    #[cold]
+    #[inline(never)]
+    fn control_unkept(&mut self, params: &Params, intermediates: &[u8], ignore: bool, action: u8)
+        ensures { self.new ≡ record self.old {
+          screen = with_kept self.old.screen.display.history
+              (after (csi_dispatch (groups_shown params.now) intermediates.now ignore action) self.old.screen);
+        } }
+    {
+        // (for the proof: it is within its sizes)
+        let _ = self.screen.columns();
+        let mut kept = None;
+        self.screen.swap_history(&mut kept);
+        self.screen
+            .csi_dispatch(params, intermediates, ignore, action);
+        self.screen.swap_history(&mut kept);
+    }
+
+    /// The same of an escape sequence.
+    #[cold]
+    #[inline(never)]
+    fn escape_unkept(&mut self, intermediates: &[u8], ignore: bool, byte: u8)
+        ensures { self.new ≡ record self.old {
+          screen = with_kept self.old.screen.display.history
+              (after (esc_dispatch intermediates.now ignore byte) self.old.screen);
+        } }
+    {
+        // (for the proof: it is within its sizes)
+        let _ = self.screen.columns();
+        let mut history = None;
+        self.screen.swap_history(&mut history);
+        self.screen.esc_dispatch(intermediates, ignore, byte);
+        self.screen.swap_history(&mut history);
+    }
+
+    /// Any control sequence.
+    #[inline(never)]
+    #[tactic(auto, using(crate::proofs::QuietLemmas::quiet_sequence))]
+    fn control(&mut self, params: &Params, intermediates: &[u8], ignore: bool, action: u8)
+        ensures { self.new ≡ answering_after (csi_dispatch (groups_shown params.now) intermediates.now ignore action) self.old }
+    {
+        self.asked
+            .csi_dispatch(params, intermediates, ignore, action);
+        if intermediates.is_empty() && action == ERASE && !self.keeps_erased {
+            self.control_unkept(params, intermediates, ignore, action);
+        } else {
+            self.screen
+                .csi_dispatch(params, intermediates, ignore, action);
+        }
+        if may_be_answered(action) {
+            self.answer_sequence(params, intermediates, ignore, action);
+        }
     }
 
     /// Answers a control sequence.
@@ -159,21 +241,24 @@ impl Perform for Answering {
     }
 
     #[inline(always)]
-    #[tactic(auto, using(crate::proofs::QuietLemmas::quiet_sequence))]
+    #[tactic(auto, using(crate::proofs::QuietLemmas::screen_alone))]
     fn csi_dispatch(&mut self, params: &Params, intermediates: &[u8], ignore: bool, action: u8) {
-        self.asked
-            .csi_dispatch(params, intermediates, ignore, action);
-        self.screen
-            .csi_dispatch(params, intermediates, ignore, action);
-        if may_be_answered(action) {
-            self.answer_sequence(params, intermediates, ignore, action);
+        if is_alone(intermediates, action) {
+            self.screen
+                .csi_dispatch(params, intermediates, ignore, action);
+        } else {
+            self.control(params, intermediates, ignore, action);
         }
     }
 
     #[inline(always)]
     fn esc_dispatch(&mut self, intermediates: &[u8], ignore: bool, byte: u8) {
         self.asked.esc_dispatch(intermediates, ignore, byte);
-        self.screen.esc_dispatch(intermediates, ignore, byte);
+        if intermediates.is_empty() && byte == RESET && !self.keeps_erased {
+            self.escape_unkept(intermediates, ignore, byte);
+        } else {
+            self.screen.esc_dispatch(intermediates, ignore, byte);
+        }
     }
 }
 

@@ -20,8 +20,8 @@ use Rattle.ansi_screen.specs.After.{State, Shows}
 use Rattle.ansi_screen.specs.Laws.{with_shown}
 use Rattle.ansi_screen.specs.Leaving.{unkept}
 use Rattle.screen_pieces.specs.declared.terminal.Terminal.{Terminal}
-use Rattle.screen_pieces.specs.History.{KeepsLeft}
 use Rattle.screen_pieces.specs.Terminal.{KeepsLinks, HasAsked, HasRequest, StandsAfter, Tells, TakesAnswers, HasTheme}
+use Rattle.screen_pieces.proofs.CopyLemmas.{kept-stands}
 
 pub asks-more : (before more : List ℕ) (made : List Call) (old new : Asked) → Continues before more made → new ≡ asked_after_all made old
     → HasAsked before old → HasAsked (before ++ more) new
@@ -45,7 +45,7 @@ pub told-stands : (first : State) (bytes : List ℕ) (old new : Terminal) → Te
 told-stands first bytes old new tells stands = record {
   shows = subst (λ (s : State). Shows (with_shown s.display.shown (unkept first)) bytes (unkept s)) (sym tells.screen) stands.shows;
   parser = subst (λ p. IsAfter front_of p bytes) (sym tells.parser) stands.parser;
-  history = subst (λ (s : State). KeepsLeft first bytes s.display.history) (sym tells.screen) stands.history;
+  history = kept-stands first bytes old new tells.keeps_erased (ap (λ (s : State). s.display.history) tells.screen) stands.history;
   links = subst (KeepsLinks first bytes) (sym tells.links) stands.links;
   asked = subst (HasAsked bytes) (sym tells.asked) stands.asked;
   request = subst (HasRequest bytes) (sym tells.request) stands.request;
@@ -60,7 +60,7 @@ still-stands : (first : State) (bytes : List ℕ) (old new : Terminal) → new.p
 still-stands first bytes old new parser same stands = record {
   shows = subst (λ (s : State). Shows (with_shown s.display.shown (unkept first)) bytes (unkept s)) (sym (ap (λ (t : Answering). t.screen) same)) stands.shows;
   parser = subst (λ p. IsAfter front_of p bytes) (sym parser) stands.parser;
-  history = subst (λ (s : State). KeepsLeft first bytes s.display.history) (sym (ap (λ (t : Answering). t.screen) same)) stands.history;
+  history = kept-stands first bytes old new (ap (λ (t : Answering). t.keeps_erased) same) (ap (λ (t : Answering). t.screen.display.history) same) stands.history;
   links = subst (KeepsLinks first bytes) (sym (ap (λ (t : Answering). t.links) same)) stands.links;
   asked = subst (HasAsked bytes) (sym (ap (λ (t : Answering). t.asked) same)) stands.asked;
   request = subst (HasRequest bytes) (sym (ap (λ (t : Answering). t.request) same)) stands.request;

@@ -1,5 +1,5 @@
 -- A piece more leads on.
-use Rattle.std.proofs.Common.{◌≡◌, ℕ, true, List, [], ◌++◌, refl, sym, ap, ap₂, ◌∙◌}
+use Rattle.std.proofs.Common.{◌≡◌, ℕ, Bool, true, List, [], ◌++◌, refl, sym, ap, ap₂, ◌∙◌, subst}
 use Rattle.std.specs.Prelude.{Option, None, Some, is_some}
 use Rattle.anstyle_parse.specs.Stream.Call.{Call}
 use Rattle.anstyle_parse.specs.Stream.Calls.{Continues}
@@ -8,7 +8,7 @@ use Rattle.ansi_screen.specs.declared.cell.Cell.{Cell}
 use Rattle.ansi_screen.specs.After.{State, Shows, after_all}
 use Rattle.ansi_screen.specs.History.{Kept, with_left}
 use Rattle.ansi_screen.specs.Leaving.{unkept, all_left, with_room_alone}
-use Rattle.ansi_screen.specs.TextsProof.{after_all-append, all_left-append}
+use Rattle.ansi_screen.specs.TextsProof.{after_all-append}
 use Rattle.screen_draw.proofs.NotedLemmas.{since-stays}
 use Rattle.ansi_screen.specs.Display.{Picture}
 use Rattle.ansi_screen.specs.Laws.{with_shown}
@@ -18,9 +18,11 @@ use Rattle.ansi_screen.proofs.LeavingLemmas.{kept-most}
 use Rattle.ansi_screen.proofs.LeavingTable.{with_left-none}
 use Rattle.ansi_screen.proofs.LeftLemmas.{history-after_all, with_left-append}
 use Rattle.screen_answers.specs.declared.answering.Answering.{Answering}
+use Rattle.screen_answers.specs.Kept.{all_kept}
 use Rattle.screen_answers.specs.Laws.{GoByThemselves}
+use Rattle.screen_answers.proofs.KeptLemmas.{all_kept-append}
 use Rattle.screen_pieces.specs.History.{nothing_yet, KeepsLeft}
-use Rattle.screen_pieces.proofs.CopyLemmas.{left-led}
+use Rattle.screen_pieces.proofs.CopyLemmas.{kept-led}
 
 pub shows-more : (first old new : State) (before more : List ℕ) (made : List Call) → Continues before more made
     → new ≡ after_all made old → Shows first before old → Shows first (before ++ more) new
@@ -37,6 +39,11 @@ pub room-stays : (made : List Call) (old new : State) → new ≡ after_all made
 room-stays made old new becomes =
     ap nothing_yet (ap (λ (s : State). s.display.history) becomes ∙ history-after_all made old) ∙ kept-room (all_left made old) old.display.history
 
+-- What is kept by calls, by a screen that is handed them
+history-led : (made : List Call) (old new : Answering) → GoByThemselves made old new
+    → new.screen.display.history ≡ with_left (all_kept old.keeps_erased made old.screen) old.screen.display.history
+history-led made old new led = ap (λ (s : State). s.display.history) led.screen
+
 -- Where there is the same room, rows are kept as before.
 some-yet : (history : Option Kept) → is_some (nothing_yet history) ≡ is_some history
 some-yet None = refl
@@ -45,35 +52,38 @@ some-yet (Some kept) = refl
 pub some-stays : (old new : Option Kept) → nothing_yet new ≡ nothing_yet old → is_some old ≡ true → is_some new ≡ true
 some-stays old new same is = sym (some-yet new) ∙ (ap is_some same ∙ (some-yet old ∙ is))
 
--- What is kept are the last of all rows that left.
-pub keeps-more : (first screen new : State) (since : Picture) (before more : List ℕ) (made : List Call) → Continues before more made
-    → Shows (with_shown since (unkept first)) before (unkept screen) → KeepsLeft first before screen.display.history → new ≡ after_all made screen
-    → KeepsLeft first (before ++ more) new.display.history
-keeps-more first screen new since before more made continues shows kept becomes =
+-- There stays as much room for rows that leave.
+pub room-led : (made : List Call) (old new : Answering) → GoByThemselves made old new
+    → nothing_yet new.screen.display.history ≡ nothing_yet old.screen.display.history
+room-led made old new led =
+    ap nothing_yet (history-led made old new led) ∙ kept-room (all_kept old.keeps_erased made old.screen) old.screen.display.history
+
+-- What is kept are the last of all rows that left, and are to be kept.
+pub keeps-more : (first : State) (since : Picture) (before more : List ℕ) (made : List Call) (old new : Answering) → Continues before more made
+    → Shows (with_shown since (unkept first)) before (unkept old.screen) → KeepsLeft old.keeps_erased first before old.screen.display.history
+    → GoByThemselves made old new → KeepsLeft new.keeps_erased first (before ++ more) new.screen.display.history
+keeps-more first since before more made old new continues shows kept led =
+    let keeps : Bool = old.keeps_erased in
     let calls = kept.0 in
-    let led : unkept screen ≡ after_all calls (with_shown since (unkept first)) =
+    let there : unkept old.screen ≡ after_all calls (with_shown since (unkept first)) =
     shows.2 ∙ ap (λ (l : List Call). after_all l (with_shown since (unkept first))) (AreCalls-only before shows.0 calls shows.1 kept.1) in
-    let left : all_left calls first ++ all_left made screen ≡ all_left (calls ++ made) first =
-    ap (λ (rows : List (List Cell)). all_left calls first ++ rows) (left-led since calls made first screen led) ∙ sym (all_left-append calls made first) in (
+    let rows : all_kept keeps calls first ++ all_kept keeps made old.screen ≡ all_kept keeps (calls ++ made) first =
+    ap (λ (l : List (List Cell)). all_kept keeps calls first ++ l) (kept-led keeps since calls made first old.screen there)
+    ∙ sym (all_kept-append keeps calls made first) in
+    subst (λ k. KeepsLeft k first (before ++ more) new.screen.display.history) (sym led.keeps_erased) (
       calls ++ made,
       continues calls kept.1,
-      ap (λ (s : State). s.display.history) becomes
-          ∙ (history-after_all made screen
-          ∙ (ap (with_left (all_left made screen)) kept.2
-          ∙ (sym (with_left-append (all_left calls first) (all_left made screen) (nothing_yet screen.display.history))
-          ∙ (ap (λ rows. with_left rows (nothing_yet screen.display.history)) left
-          ∙ ap (with_left (all_left (calls ++ made) first)) (sym (room-stays made screen new becomes)))))),
+      history-led made old new led
+          ∙ (ap (with_left (all_kept keeps made old.screen)) kept.2
+          ∙ (sym (with_left-append (all_kept keeps calls first) (all_kept keeps made old.screen) (nothing_yet old.screen.display.history))
+          ∙ (ap (λ l. with_left l (nothing_yet old.screen.display.history)) rows
+          ∙ ap (with_left (all_kept keeps (calls ++ made) first)) (sym (room-led made old new led))))),
     )
 
 -- The picture since which it notes what changes stays.
 pub picture-stays : (made : List Call) (old new : Answering) → GoByThemselves made old new → new.screen.display.shown ≡ old.screen.display.shown
 picture-stays made old new led =
     ap (λ (s : State). s.display.shown) led.screen ∙ since-stays made old.screen
-
--- There stays as much room for rows that leave.
-pub room-led : (made : List Call) (old new : Answering) → GoByThemselves made old new
-    → nothing_yet new.screen.display.history ≡ nothing_yet old.screen.display.history
-room-led made old new led = room-stays made old.screen new.screen led.screen
 
 -- Without what it keeps, its screen is led on by the same calls.
 pub unkept-led : (made : List Call) (old new : Answering) → GoByThemselves made old new → unkept new.screen ≡ after_all made (unkept old.screen)

@@ -1,6 +1,6 @@
 -- Rows that leave by few bytes find room.
-use Rattle.std.proofs.Common.{◌≡◌, ℕ, suc, ◌+◌, ◌*◌, ◌-◌, ◌≤◌, List, [], ◌∷◌, ◌++◌, length, drop, refl, sym, ap, subst, ◌∙◌, inl, inr, arith}
-use Rattle.std.specs.Prelude.{Option, None, Some, ◌⊎◌, min}
+use Rattle.std.proofs.Common.{◌≡◌, ℕ, suc, ◌+◌, ◌*◌, ◌-◌, ◌≤◌, Bool, true, false, List, [], ◌∷◌, ◌++◌, length, drop, refl, sym, ap, subst, ◌∙◌, inl, inr, arith}
+use Rattle.std.specs.Prelude.{Option, None, Some, ◌⊎◌, min, if◌then◌else◌}
 use Rattle.std.proofs.lemmas.List.{length-append, length-drop}
 use Rattle.std.proofs.Math.Nat.{suc-mul, mul-le-mul_right}
 use Rattle.anstyle_parse.specs.Stream.Call.{Call}
@@ -13,15 +13,16 @@ use Rattle.anstyle_parse.proofs.Machine.CallCounts.{step_calls-few}
 use Rattle.ansi_screen.specs.declared.cell.Cell.{Cell}
 use Rattle.ansi_screen.specs.After.{State, new_state, after, after_all}
 use Rattle.ansi_screen.specs.History.{Kept, keep_last, kept_after, kept_after_all, with_left}
-use Rattle.ansi_screen.specs.Leaving.{rows_left, all_left}
-use Rattle.ansi_screen.specs.TextsProof.{all_left-append}
+use Rattle.ansi_screen.specs.Leaving.{rows_left}
 use Rattle.ansi_screen.proofs.LeavingTable.{leaving}
 use Rattle.ansi_screen.proofs.LeftLemmas.{length-left, with_left-append}
 use Rattle.ansi_screen.proofs.SizeLemmas.{HasSize, sized-after, sized-after_all, few-leave}
+use Rattle.screen_answers.specs.Kept.{is_kept, rows_kept, all_kept}
+use Rattle.screen_answers.proofs.KeptLemmas.{all_kept-append}
 use Rattle.screen_pieces.specs.declared.terminal.Terminal.{Terminal}
 use Rattle.screen_pieces.specs.History.{nothing_yet, kept_of, KeepsLeft}
 use Rattle.screen_pieces.specs.Keeping.{AreKeptSince, HasRoomSince, most_leaving}
-use Rattle.screen_pieces.specs.Terminal.{display_of, history_of, StandsAfter, Feeds}
+use Rattle.screen_pieces.specs.Terminal.{display_of, history_of, keeps_erased_of, StandsAfter, Feeds}
 
 -- Two calls for each byte at most.
 length-calls : {A : Type 0} (adds : AccumulatorStep A) (bytes : List ℕ) (m : Machine A) → length (machine_calls adds bytes m) ≤ 2 * length bytes
@@ -45,16 +46,22 @@ added-few : (before piece : List ℕ) → length (added before piece) ≤ 2 * le
 unfolding added
 added-few before piece = length-calls decoded piece (machine_after decoded before (new_machine []))
 
--- By calls no more rows leave than as many screens have.
-few-left : (width height : ℕ) (calls : List Call) (s : State) → HasSize width height s.display → length (all_left calls s) ≤ length calls * height
-few-left width height [] s is = omega arith
-few-left width height (call ∷ calls) s is =
+-- By calls no more rows leave than as many screens have, and of these no more are kept.
+some-kept : (kept : Bool) (rows : List (List Cell)) → length (if kept then rows else []) ≤ length rows
+some-kept true rows = omega arith
+some-kept false rows = omega arith
+
+few-kept : (keeps : Bool) (width height : ℕ) (calls : List Call) (s : State) → HasSize width height s.display
+    → length (all_kept keeps calls s) ≤ length calls * height
+few-kept keeps width height [] s is = omega arith
+few-kept keeps width height (call ∷ calls) s is =
     omega (
       arith,
-      length-append (rows_left call s) (all_left calls (after call s)),
+      length-append (rows_kept keeps call s) (all_kept keeps calls (after call s)),
+      some-kept (is_kept keeps call) (rows_left call s),
       length-left call s,
       few-leave width height call s.display is,
-      few-left width height calls (after call s) (sized-after width height call s is),
+      few-kept keeps width height calls (after call s) (sized-after width height call s is),
       suc-mul (length calls) height,
     )
 
@@ -108,17 +115,21 @@ module _ (width height seen : ℕ) (before piece : List ℕ) (old new : Terminal
   abbrev made : List Call
   made = added before piece
 
+  abbrev keeps : Bool
+  keeps = keeps_erased_of old
+
   abbrev left : List (List Cell)
-  left = all_left made (after_all calls first)
+  left = all_kept keeps made (after_all calls first)
 
   history-is : (display_of new).history ≡ with_left left (display_of old).history
   history-is =
-      let after : KeepsLeft first (before ++ piece) (display_of new).history = (feeds.stands first before stands).history in
+      let after : KeepsLeft keeps first (before ++ piece) (display_of new).history =
+      subst (λ k. KeepsLeft k first (before ++ piece) (display_of new).history) feeds.room.keeps_erased (feeds.stands first before stands).history in
       after.2
-      ∙ (ap (λ (l : List Call). with_left (all_left l first) (nothing_yet (display_of new).history)) (calls-more before piece calls after.0 stands.history.1 after.1)
-      ∙ (ap (with_left (all_left (calls ++ made) first)) feeds.room
-      ∙ (ap (λ rows. with_left rows (nothing_yet (display_of old).history)) (all_left-append calls made first)
-      ∙ (with_left-append (all_left calls first) left (nothing_yet (display_of old).history)
+      ∙ (ap (λ (l : List Call). with_left (all_kept keeps l first) (nothing_yet (display_of new).history)) (calls-more before piece calls after.0 stands.history.1 after.1)
+      ∙ (ap (with_left (all_kept keeps (calls ++ made) first)) feeds.room.most
+      ∙ (ap (λ rows. with_left rows (nothing_yet (display_of old).history)) (all_kept-append keeps calls made first)
+      ∙ (with_left-append (all_kept keeps calls first) left (nothing_yet (display_of old).history)
       ∙ ap (with_left left) (sym stands.history.2)))))
 
   few : length left ≤ most_leaving height (length piece)
@@ -126,7 +137,7 @@ module _ (width height seen : ℕ) (before piece : List ℕ) (old new : Terminal
       let sized : HasSize width height (after_all calls first).display = sized-after_all width height calls first (refl, refl, omega arith) in
       omega (
         arith,
-        few-left width height made (after_all calls first) sized,
+        few-kept keeps width height made (after_all calls first) sized,
         mul-le-mul_right {m = length made} {n = 2 * length piece} height (added-few before piece),
       )
 

@@ -16,7 +16,7 @@ answering_send : IsSend (answering.the_field).row
 answering_send =
     struct_send (shape answering.the_type) (
       screen_send,
-      (links_send.the_send, (asked_send.the_field_send, (theme_send.the_field_send, (request_send.the_field_send, (waiting_send.the_send, tt))))),
+      (links_send.the_send, (asked_send.the_field_send, (theme_send.the_field_send, (request_send.the_field_send, (waiting_send.the_send, (search sendable, tt)))))),
     )
 
 pub terminal_send : IsSend terminal.the_row

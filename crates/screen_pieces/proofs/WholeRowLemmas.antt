@@ -3,6 +3,7 @@ use Rattle.std.proofs.Common.{◌≡◌, ◌≤◌, ◌<◌, ◌*◌, ℕ, zero,
 use Rattle.std.specs.Prelude.{◌==◌, if◌then◌else◌}
 use Rattle.std.specs.List.{AllByRecursion}
 use Rattle.anstyle_parse.specs.Stream.Call.{Call, print, execute, hook, put, unhook, osc_dispatch, csi_dispatch, esc_dispatch}
+use Rattle.ansi_screen.specs.declared.cell.Cell.{Cell}
 use Rattle.ansi_screen.specs.After.{State, after}
 use Rattle.ansi_screen.specs.Display.{Display, IsSized, row_cells}
 use Rattle.ansi_screen.specs.Edits.{row_going_on}
@@ -17,6 +18,7 @@ use Rattle.ansi_screen.proofs.KeptLemmas.{kept-if, kept-going_on, row-inside}
 use Rattle.ansi_screen.proofs.SizeLemmas.{sized-after, few-leave}
 use Rattle.ansi_screen.proofs.LeavingTable.{leaving, before_escape, before_leaving}
 use Rattle.ansi_screen.proofs.LeftLemmas.{rows_left-is}
+use Rattle.screen_answers.specs.Kept.{is_kept, rows_kept, all_kept}
 use Rattle.screen_pieces.specs.History.{HasCells}
 
 row-length : (n : ℕ) (d : Display) → IsSized d → n < d.height → length (row_cells n d) ≡ d.width
@@ -112,3 +114,19 @@ all-whole columns (call ∷ calls) s is wide =
     (sized-after s.display.width s.display.height call s (refl, refl, is.sized.margins_within)).0 in
     all-append (HasCells columns) (rows_left call s) (all_left calls (after call s)) (subst (λ w. AllByRecursion (HasCells w) (rows_left call s)) wide (left-whole call s is))
     (all-whole columns calls (after call s) (kept-after call s is) (next ∙ wide))
+
+-- Of these some are kept, by a call all or none.
+some-whole : (columns : ℕ) (kept : Bool) (rows : List (List Cell)) → AllByRecursion (HasCells columns) rows
+    → AllByRecursion (HasCells columns) (if kept then rows else [])
+some-whole columns true rows are = are
+some-whole columns false rows are = tt
+
+pub kept-whole : (columns : ℕ) (keeps_erased : Bool) (calls : List Call) (s : State) → IsScreen s.display → s.display.width ≡ columns
+    → AllByRecursion (HasCells columns) (all_kept keeps_erased calls s)
+kept-whole columns keeps_erased [] s is wide = tt
+kept-whole columns keeps_erased (call ∷ calls) s is wide =
+    let next : (after call s).display.width ≡ s.display.width =
+    (sized-after s.display.width s.display.height call s (refl, refl, is.sized.margins_within)).0 in
+    all-append (HasCells columns) (rows_kept keeps_erased call s) (all_kept keeps_erased calls (after call s))
+    (some-whole columns (is_kept keeps_erased call) (rows_left call s) (subst (λ w. AllByRecursion (HasCells w) (rows_left call s)) wide (left-whole call s is)))
+    (kept-whole columns keeps_erased calls (after call s) (kept-after call s is) (next ∙ wide))

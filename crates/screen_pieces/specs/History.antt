@@ -1,13 +1,13 @@
 -- The last rows that left a screen, of as many as were asked for.
-use Rattle.std.specs.Prelude.{◌≡◌, ◌≤◌, ℕ, Option, None, Some, List, [], length, slice_index_or}
+use Rattle.std.specs.Prelude.{◌≡◌, ◌≤◌, ℕ, Bool, Option, None, Some, List, [], length, slice_index_or}
 use Rattle.std.specs.Option.{option_map}
 use Rattle.anstyle_parse.specs.Stream.Call.{Call}
 use Rattle.anstyle_parse.specs.Stream.Calls.{AreCalls}
 use Rattle.ansi_screen.specs.declared.cell.Cell.{Cell}
 use Rattle.ansi_screen.specs.After.{State}
 use Rattle.ansi_screen.specs.History.{Kept, nothing_kept, with_left}
-use Rattle.ansi_screen.specs.Leaving.{all_left}
 use Rattle.ansi_screen.specs.Text.{row_text}
+use Rattle.screen_answers.specs.Kept.{all_kept}
 
 -- a row has so many cells
 abbrev pub HasCells : ℕ → List Cell → Type 0
@@ -17,10 +17,11 @@ HasCells columns row = length row ≡ columns
 abbrev pub nothing_yet : Option Kept → Option Kept
 nothing_yet history = option_map (λ (kept : Kept). nothing_kept kept.most kept.columns) history
 
--- Kept are the last of the rows that left by the bytes, from a first screen on.
-abbrev pub KeepsLeft : State → List ℕ → Option Kept → Type 0
-KeepsLeft first bytes history =
-    (calls : List Call) × AreCalls bytes calls × (history ≡ with_left (all_left calls first) (nothing_yet history))
+-- Kept are the last of the rows that left by the bytes, from a first screen on: of all, or of those that ED and RIS did
+-- not take away.
+abbrev pub KeepsLeft : (keeps_erased : Bool) → State → List ℕ → Option Kept → Type 0
+KeepsLeft keeps_erased first bytes history = (calls : List Call) × AreCalls bytes calls
+    × (history ≡ with_left (all_kept keeps_erased calls first) (nothing_yet history))
 
 -- what is kept; nothing, where nothing is to be
 abbrev pub kept_of : Option Kept → Kept

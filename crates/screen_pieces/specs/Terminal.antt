@@ -1,6 +1,6 @@
 -- A screen that takes its stream in pieces.
 use Rattle.std.specs.List.{flat_map}
-use Rattle.std.specs.Prelude.{◌≡◌, ◌<◌, ◌≤◌, ℕ, Some, List, [], ◌++◌, length, take, drop, map, slice_index_or}
+use Rattle.std.specs.Prelude.{◌≡◌, ◌<◌, ◌≤◌, ℕ, Bool, Some, List, [], ◌++◌, length, take, drop, map, slice_index_or}
 use Rattle.ansi_style.specs.Style.{plain}
 use Rattle.anstyle_parse.specs.Stream.Call.{Call}
 use Rattle.anstyle_parse.specs.Stream.Calls.{AreCalls, Continues}
@@ -67,6 +67,10 @@ waiting_of terminal = terminal.answering.waiting
 abbrev pub answers_of : Terminal → List ℕ
 answers_of terminal = flat_map answer_text (waiting_of terminal).answers
 
+-- whether it keeps rows that ED and RIS take away
+abbrev pub keeps_erased_of : Terminal → Bool
+keeps_erased_of terminal = terminal.answering.keeps_erased
+
 -- It is what the bytes ask for. What of it was told, they do not decide.
 abbrev pub HasAsked : List ℕ → Asked → Type 0
 HasAsked bytes asked =
@@ -101,7 +105,7 @@ begun first terminal = with_shown (display_of terminal).shown (unkept first)
 pub record StandsAfter (first : State) (bytes : List ℕ) (terminal : Terminal) : Type 0 where
   pub shows : Shows (begun first terminal) bytes (unkept (screen_of terminal))
   pub parser : IsAfter front_of terminal.parser bytes
-  pub history : KeepsLeft first bytes (display_of terminal).history
+  pub history : KeepsLeft (keeps_erased_of terminal) first bytes (display_of terminal).history
   pub links : KeepsLinks first bytes (table_of terminal)
   pub asked : HasAsked bytes (asked_of terminal)
   pub request : HasRequest bytes (request_of terminal)
@@ -115,6 +119,7 @@ pub record IsCopy (terminal copy : Terminal) : Type 0 where
   pub request : request_of copy ≡ request_of terminal
   pub waiting : waiting_of copy ≡ waiting_of terminal
   pub theme : theme_of copy ≡ theme_of terminal
+  pub keeps_erased : keeps_erased_of copy ≡ keeps_erased_of terminal
 
 -- Nothing is told of what it was asked for any more; all else stays.
 pub record Tells (old new : Terminal) : Type 0 where
@@ -125,6 +130,7 @@ pub record Tells (old new : Terminal) : Type 0 where
   pub request : request_of new ≡ request_of old
   pub waiting : waiting_of new ≡ waiting_of old
   pub theme : theme_of new ≡ theme_of old
+  pub keeps_erased : keeps_erased_of new ≡ keeps_erased_of old
 
 -- No answer waits any more, and none counts as lost; all else stays.
 pub record TakesAnswers (old new : Terminal) : Type 0 where
@@ -136,9 +142,10 @@ pub record HasTheme (theme : Theme) (old new : Terminal) : Type 0 where
   pub parser : new.parser ≡ old.parser
   pub answering : new.answering ≡ record old.answering { theme = theme }
 
--- There is as much room as before for rows that leave.
-abbrev pub SameRoom : (old new : Terminal) → Type 0
-SameRoom old new = nothing_yet (display_of new).history ≡ nothing_yet (display_of old).history
+-- There is as much room as before for rows that leave, and the same of them are kept.
+pub record SameRoom (old new : Terminal) : Type 0 where
+  pub most : nothing_yet (display_of new).history ≡ nothing_yet (display_of old).history
+  pub keeps_erased : keeps_erased_of new ≡ keeps_erased_of old
 
 -- It takes the next bytes of the stream: whatever bytes it stood after, it stands after these too. It forgets nothing
 -- of what can have changed: the picture from which on that is noted stays.
@@ -162,10 +169,12 @@ pub record Begins (old new : Terminal) : Type 0 where
   pub room : SameRoom old new
   pub since : (display_of new).shown ≡ (display_of old).shown
 
--- It is a new screen, with room for so many of the rows that leave it.
-pub record IsNew (columns rows history : ℕ) (terminal : Terminal) : Type 0 where
+-- It is a new screen, with room for so many of the rows that leave it: of all, or of those that ED and RIS do not take
+-- away.
+pub record IsNew (columns rows history : ℕ) (keeps_erased : Bool) (terminal : Terminal) : Type 0 where
   pub stands : StandsAfter (new_state columns rows) [] terminal
   pub room : (display_of terminal).history ≡ Some (nothing_kept history columns)
+  pub erased : keeps_erased_of terminal ≡ keeps_erased
   pub asked : asked_of terminal ≡ nothing_asked
   pub waiting : waiting_of terminal ≡ nothing_waits
   pub theme : theme_of terminal ≡ no_theme

@@ -1,21 +1,26 @@
 //! Laws of the rows that leave a screen, of copies, of what changes, and of what is told.
-ghost use Rattle.std.specs.Prelude.{◌≡◌, ◌≤◌, ℕ, List};
+ghost use Rattle.std.specs.Prelude.{◌≡◌, ◌≤◌, ℕ, Bool, List};
 ghost use Rattle.anstyle_parse.specs.Stream.Call.{Call};
 ghost use Rattle.ansi_answers.specs.declared.color.Theme.{Theme};
 ghost use Rattle.ansi_screen.specs.After.{State, new_state};
 ghost use Rattle.ansi_screen.specs.Damage.{KeepsColumns};
 ghost use Rattle.ansi_screen.specs.Display.{most_columns, most_rows, row_cells};
 ghost use Rattle.ansi_screen.specs.Leaving.{all_left};
+ghost use Rattle.screen_answers.specs.Kept.{all_kept};
 ghost use Rattle.screen_pieces.specs.declared.terminal.Terminal.{Terminal};
 ghost use Rattle.std.specs.List.{AllByRecursion};
 ghost use Rattle.screen_pieces.specs.History.{HasCells};
 ghost use Rattle.screen_pieces.specs.Terminal.{display_of, StandsAfter, IsCopy, Tells, TakesAnswers, HasTheme, Feeds, CanHaveChanged};
 
-/// Rows are whole: each that leaves a screen, whatever calls a new one has received, has a cell in each column.
+/// Rows are whole: each that leaves a screen, whatever calls a new one has received, has a cell in each column; and so has
+/// each that is kept.
 pub fn rows_are_whole()
-    ensures { (columns rows : ℕ) (calls : List Call)
+    ensures left { (columns rows : ℕ) (calls : List Call)
         → 2 ≤ columns → columns ≤ most_columns → 1 ≤ rows → rows ≤ most_rows
         → AllByRecursion (HasCells columns) (all_left calls (new_state columns rows)) }
+    ensures kept { (columns rows : ℕ) (keeps_erased : Bool) (calls : List Call)
+        → 2 ≤ columns → columns ≤ most_columns → 1 ≤ rows → rows ≤ most_rows
+        → AllByRecursion (HasCells columns) (all_kept keeps_erased calls (new_state columns rows)) }
 {}
 
 /// What has changed is told: where a screen has forgotten what can have changed, and has then been fed a piece, each

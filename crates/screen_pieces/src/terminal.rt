@@ -38,25 +38,28 @@ impl Terminal {
         requires max_rows { rows ≤ MAX_ROWS }
         ensures { IfOk result (λ terminal. StandsAfter (new_state columns rows) [] terminal) }
     {
-        Terminal::with_history(alloc, columns, rows, 0)
+        Terminal::with_history(alloc, columns, rows, 0, true)
     }
 
-    /// The same, and the last so many rows that leave the screen are kept.
+    /// The same, and the last so many rows that leave the screen are kept: of all, or, where `keeps_erased` is false, of
+    /// those that scroll off, and of none that ED 2, ED 0 at the first cell, or RIS takes away with all of the screen.
     pub fn with_history(
         alloc: Global,
         columns: usize,
         rows: usize,
         history: usize,
+        keeps_erased: bool,
     ) -> Result<Terminal, AllocError>
         requires min_columns { MIN_COLUMNS ≤ columns }
         requires max_columns { columns ≤ MAX_COLUMNS }
         requires min_rows { MIN_ROWS ≤ rows }
         requires max_rows { rows ≤ MAX_ROWS }
-        ensures { IfOk result (IsNew columns rows history) }
+        ensures { IfOk result (IsNew columns rows history keeps_erased) }
     {
         let screen = Screen::with_history(alloc, columns, rows, history)?;
         let links = LinkTable::new(alloc)?;
-        let answering = Answering::new(screen, links, Theme::none());
+        let mut answering = Answering::new(screen, links, Theme::none());
+        answering.keeps_erased = keeps_erased;
         Ok(Terminal {
             parser: Parser::<Utf8Parser>::new(),
             answering,

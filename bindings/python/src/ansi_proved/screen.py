@@ -114,7 +114,7 @@ class OwnColors(ctypes.Structure):
 
 
 class Options(ctypes.Structure):
-    _fields_ = [("history", ctypes.c_size_t), ("reserved", ctypes.c_size_t * 7)]
+    _fields_ = [("history", ctypes.c_size_t), ("drops_erased", ctypes.c_size_t), ("reserved", ctypes.c_size_t * 6)]
 
 
 class Handle(ctypes.Structure):
@@ -305,6 +305,7 @@ class _Memory:
 
 class History(Sequence):
     """The last rows that left a screen, at its top or erased with all of it (ED 2, ED 0 at its first cell, RIS), the oldest first: a sequence of lists of cells.
+    Those that were erased are not among them, nor counted, where the screen has `keep_erased=False`.
 
     It goes on as the screen does: what left since is at its end, and what another thread feeds moves the numbers of the rows. Rows of
     one moment are those of a slice (`history[:]`), of `display` and of `text()`, or of a copy of the screen.
@@ -370,6 +371,8 @@ class Screen:
     as `close` does, and so does its end. It can't be resized: `events` of the same bytes tell what asks for that.
 
     history: how many of the last rows that leave it are kept. Each takes some 40 bytes a column, from the beginning on.
+    keep_erased: whether those are kept too that ED 2, ED 0 at the first cell and RIS take away with all of the screen (as by VTE and
+    kitty), or those alone that scroll off (as by xterm and libvterm).
 
     Threads may share it: one call is made at a time, and others wait. So another thread sees all of a piece that is fed or nothing
     of it, and what a call gives is of one moment: `text()`, `display`, `cells`, a slice of `history`. Between two calls the
@@ -380,7 +383,7 @@ class Screen:
     _at = None
     answers_lost = False
 
-    def __init__(self, columns=80, rows=24, history=0):
+    def __init__(self, columns=80, rows=24, history=0, keep_erased=True):
         check_size(columns, rows)
         if not isinstance(history, int):
             raise TypeError("a history is an int, and not " + type(history).__name__)
@@ -388,7 +391,7 @@ class Screen:
             raise ValueError("there is no history of %d rows" % history)
         self.__del__()  # (what it held, where it is made again)
         self._begin(columns, rows)
-        options = Options(history=history)
+        options = Options(history=history, drops_erased=not keep_erased)
         if not _open(self._at, columns, rows, ctypes.addressof(options)):
             raise MemoryError("there is no memory for a screen of %dx%d and %d rows that left" % (columns, rows, history))
 

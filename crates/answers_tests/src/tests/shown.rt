@@ -2,7 +2,7 @@
 use super::{Row, assert_answers};
 use ansi_answers::Theme;
 use ansi_screen::Screen;
-use screen_answers::laws::{any_pieces, parts};
+use screen_answers::laws::{all_are_kept, any_pieces, parts};
 use screen_answers::{Answering, facts_of};
 use screen_html::LinkTable;
 use std::alloc::{AllocError, AllocGlobal, Global};
@@ -63,4 +63,5 @@ fn shown(rt: HostRuntime) {
         assert_shown(&rt, &row);
     }
     parts();
+    all_are_kept();
 }

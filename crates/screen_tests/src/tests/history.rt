@@ -10,7 +10,7 @@ use std::test::Fail;
 
 /// A screen of four columns and two rows, which keeps three of the rows that leave it, after this stream.
 fn shown(alloc: Global, stream: &[u8]) -> Result<Terminal, AllocError> {
-    Ok(fed(Terminal::with_history(alloc, 4, 2, 3)?, stream))
+    Ok(fed(Terminal::with_history(alloc, 4, 2, 3, true)?, stream))
 }
 
 /// The text of a row that is kept, in four bytes of room.
@@ -174,6 +174,24 @@ fn assert_few_rows(rt: &impl Abort, mut terminal: Terminal) {
 #[test]
 fn few_rows(rt: HostRuntime) -> Result<(), Fail> {
     assert_few_rows(&rt, shown(rt.alloc(), b"a\r\nb\r\nc\r\nd")?);
+    Ok(())
+}
+
+/// Of two rows that scroll off and of those that ED 2, RIS and ED 0 at the first cell take away the first two alone are
+/// kept.
+fn assert_scrolled(rt: &impl Abort, terminal: Terminal) {
+    assert_counts(rt, &terminal, (2, 2));
+    assert_kept(rt, &terminal, 0, (Ok(1), *b"a\0\0\0"));
+    assert_kept(rt, &terminal, 1, (Ok(1), *b"d\0\0\0"));
+    drop(terminal);
+}
+
+// Rows that are erased are not kept, where that is asked for.
+#[test]
+fn scrolled_rows(rt: HostRuntime) -> Result<(), Fail> {
+    let terminal = Terminal::with_history(rt.alloc(), 4, 2, 3, false)?;
+    let stream = b"a\r\nb\r\nc\x1b[2J\x1b[Hd\r\ne\r\nf\x1bcg\x1b[H\x1b[J";
+    assert_scrolled(&rt, fed(terminal, stream));
     Ok(())
 }
 

@@ -7,7 +7,7 @@ use std::test::Fail;
 
 /// A screen of four columns and two rows, which keeps two of the rows that leave it, after this stream.
 fn shown(alloc: Global, stream: &[u8]) -> Result<Terminal, AllocError> {
-    Ok(fed(Terminal::with_history(alloc, 4, 2, 2)?, stream))
+    Ok(fed(Terminal::with_history(alloc, 4, 2, 2, true)?, stream))
 }
 
 /// Two such screens after these streams.

@@ -37,6 +37,6 @@ returns c =
       asked = c.restart.ensures;
       waiting = c.take_all.ensures.left;
       theme = refl;
-      room = cleared-room _ new c.clear_history.ensures ∙ room-stays (reset ∷ []) old _ c.esc_dispatch.ensures;
+      room = record { most = cleared-room _ new c.clear_history.ensures ∙ room-stays (reset ∷ []) old _ c.esc_dispatch.ensures; keeps_erased = refl };
       since = ap (λ (s : State). s.display.shown) led;
     }

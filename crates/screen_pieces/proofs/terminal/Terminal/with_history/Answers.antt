@@ -1,5 +1,5 @@
 -- No row has left yet, and no link has begun.
-use Rattle.std.proofs.Common.{[], ap, sym, ◌∙◌}
+use Rattle.std.proofs.Common.{[], refl, ap, sym, ◌∙◌}
 use Rattle.anstyle_parse.proofs.Canonical.Items.{AreCalls-nil}
 use Rattle.ansi_modes.specs.Laws.{untold}
 use Rattle.ansi_screen.specs.After.{State, new_state}
@@ -26,6 +26,7 @@ returns c =
         request = ([], AreCalls-nil, ap (λ (t : Answering). t.request) new);
       };
       room = room;
+      erased = refl;
       asked = asked;
       waiting = ap (λ (t : Answering). t.waiting) new;
       theme = ap (λ (t : Answering). t.theme) new ∙ c.none.ensures;

@@ -3,8 +3,8 @@ ghost use Rattle.std.specs.Prelude.{◌≡◌, true, ◌+◌, ◌*◌, ◌<◌, 
 ghost use Rattle.ansi_screen.specs.Widths.{is_shown, columns};
 ghost use Rattle.std.specs.Fn.{iterate};
 ghost use Rattle.anstyle_parse.specs.Stream.Items.{EachIs};
-ghost use Rattle.ansi_screen.specs.Print.{drawn, wrapped, with_room, with_glyph, put, marked, shown, printed, printed_again};
-ghost use Rattle.ansi_screen.specs.Runs.{HasRoom, is_printed_ascii, printed_all};
+ghost use Rattle.ansi_screen.specs.Print.{drawn, wrapped, with_room, with_cells_of, with_glyph, put, marked, shown, printed, printed_again};
+ghost use Rattle.ansi_screen.specs.Runs.{HasRoom, is_printed_ascii, with_run, printed_all};
 ghost use Rattle.ansi_screen.specs.After.{repeated};
 
 use super::Display;
@@ -190,13 +190,29 @@ impl Display {
         }
     }
 
-    /// The cells of the character, and the cursor past them.
-    #[tactic(auto, unfolding(crate::specs::Print::with_glyph))]
+    /// The character, after which its row goes on as before. Mostly it is far from the row's end.
     fn put_glyph(&mut self, columns: u16, c: char)
         requires some { 1 ≤ columns }
         requires few { columns ≤ 2 }
         requires fits { self.old.cursor.column + columns ≤ self.old.width }
         ensures { self.new ≡ with_glyph columns c self.old }
+    {
+        if self.cursor.column + usize::from(columns) + 1 < self.cells.width() {
+            self.put_cells(columns, c);
+        } else {
+            let goes_on = self.goes_on();
+            self.put_cells(columns, c);
+            self.set_goes_on(goes_on);
+        }
+    }
+
+    /// The cells of the character, and the cursor past them.
+    #[tactic(auto, unfolding(crate::specs::Print::with_cells_of))]
+    fn put_cells(&mut self, columns: u16, c: char)
+        requires some { 1 ≤ columns }
+        requires few { columns ≤ 2 }
+        requires fits { self.old.cursor.column + columns ≤ self.old.width }
+        ensures { self.new ≡ with_cells_of columns c self.old }
     {
         let (row, column) = (self.cursor.row, self.cursor.column);
         let style = self.cursor.style;
@@ -230,6 +246,22 @@ impl Display {
         requires ascii { EachIs is_printed_ascii run.now }
         requires room { HasRoom (length run.now) self.old }
         ensures { self.new ≡ printed_all run.now self.old }
+    {
+        if self.cursor.column + run.len() + 1 < self.cells.width() {
+            self.put_cells_of_run(run);
+        } else {
+            let goes_on = self.goes_on();
+            self.put_cells_of_run(run);
+            self.set_goes_on(goes_on);
+        }
+    }
+
+    /// Puts its cells, and the cursor after them.
+    #[inline]
+    fn put_cells_of_run(&mut self, run: &[u8])
+        requires some { 0 < length run.now }
+        requires fits { self.old.cursor.column + length run.now ≤ self.old.width }
+        ensures { self.new ≡ with_run run.now self.old }
     {
         let (row, column) = (self.cursor.row, self.cursor.column);
         let style = self.cursor.style;

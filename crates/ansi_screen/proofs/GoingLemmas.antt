@@ -1,8 +1,8 @@
 -- Whether a row goes on: what its last cell says, what reads it and what does not.
 use Rattle.std.proofs.Common.{◌≡◌, ℕ, zero, suc, ◌+◌, ◌-◌, ◌<◌, ◌≤◌, Bool, true, false, List, [], ◌∷◌, ◌++◌, length, take, drop, set, refl, ap, sym, ◌∙◌, arith}
-use Rattle.std.specs.Prelude.{nat_lt, nat_eq, replicate, if◌then◌else◌}
+use Rattle.std.specs.Prelude.{◌&&◌, nat_lt, nat_eq, replicate, if◌then◌else◌}
 use Rattle.std.specs.List.{AllByRecursion}
-use Rattle.std.proofs.lemmas.List.{append_assoc, length-append, length-take-le, take-set-le, drop-set-lt, drop-set-add, drop-drop, set-get_or, set_comm, set-append_right, get_or-append_right, get_or-set_same, get_or-set_other, get_or-take, get_or-drop}
+use Rattle.std.proofs.lemmas.List.{append_assoc, length-append, length-take-le, take-set-le, drop-set-lt, drop-set-add, drop-drop, set-get_or, set_comm, set-append_right, get_or-append_right, get_or_append_left, get_or-set_same, get_or-set_other, get_or-take, get_or-drop}
 use borrow.Author.Tests.{ltb-true, ltb-false}
 use Rattle.ansi_style.specs.declared.style.Style.{Style}
 use Rattle.ansi_style.specs.Style.{plain}
@@ -257,3 +257,63 @@ none-behind place front behind past none =
 pub going-none : (end : ℕ) (before cells : List Cell) → (cell_at (end - 1) before).goes_on ≡ false → (cell_at (end - 1) cells).goes_on ≡ false
     → going_on (cell_at (end - 1) before).goes_on end cells ≡ cells
 going-none end before cells first none = ap (λ on. going_on on end cells) first ∙ sym (going-same false end cells none)
+
+-- where no cell goes on that is put, a row that did not go on does not
+none-set : (k i : ℕ) (x : Cell) (cells : List Cell) → x.goes_on ≡ false → (cell_at k cells).goes_on ≡ false → (cell_at k (set cells i x)).goes_on ≡ false
+none-set k i x [] is none = refl
+none-set zero zero x (y ∷ cells) is none = is
+none-set zero (suc i) x (y ∷ cells) is none = none
+none-set (suc k) zero x (y ∷ cells) is none = none
+none-set (suc k) (suc i) x (y ∷ cells) is none = none-set k i x cells is none
+
+none-cut : (k place : ℕ) (cells : List Cell) → (cell_at k cells).goes_on ≡ false → (cell_at k (cut place cells)).goes_on ≡ false
+unfolding cut
+none-cut k place cells none = by (nat_lt 0 place && right_at place cells)
+  where
+    by : (t : Bool) → (cell_at k (if t then set (set cells (place - 1) (emptied (cell_at (place - 1) cells))) place (emptied (cell_at place cells)) else cells)).goes_on ≡ false
+    by true =
+        none-set k place (emptied (cell_at place cells)) (set cells (place - 1) (emptied (cell_at (place - 1) cells))) refl
+        (none-set k (place - 1) (emptied (cell_at (place - 1) cells)) cells refl none)
+    by false = none
+
+none-second : (u : Bool) (k from to : ℕ) (new cells : List Cell) → nat_lt (k - from) (length new) ≡ u → from ≤ k → from ≤ to → length new ≡ to - from → NoneGoesOn new
+    → (cell_at k cells).goes_on ≡ false → (cell_at (k - from) (new ++ drop (to - from) (drop from cells))).goes_on ≡ false
+none-second true k from to new cells is past order long fresh none =
+    ap (λ (x : Cell). x.goes_on) (get_or_append_left new (drop (to - from) (drop from cells)) (blank plain) (k - from) (ltb-true (k - from) (length new) is))
+    ∙ none-at (k - from) new fresh
+none-second false k from to new cells is past order long fresh none =
+    let behind : length new ≤ k - from = ltb-false (k - from) (length new) is in
+    let j : ℕ = k - from - length new in
+    let there : from + (to - from + j) ≡ k = omega (arith, behind, past, order, long) in
+    ap (λ (x : Cell). x.goes_on) (get_or-append_right new (drop (to - from) (drop from cells)) (length new) (k - from) (blank plain) refl behind
+    ∙ (get_or-drop (to - from) (drop from cells) j (blank plain) ∙ (get_or-drop from cells (to - from + j) (blank plain) ∙ ap (λ i. cell_at i cells) there)))
+    ∙ none
+
+none-first : (t : Bool) (k from to : ℕ) (new cells : List Cell) → nat_lt k from ≡ t → from ≤ to → to ≤ length cells → length new ≡ to - from → NoneGoesOn new
+    → (cell_at k cells).goes_on ≡ false → (cell_at k (within from to (λ run. new) cells)).goes_on ≡ false
+none-first true k from to new cells is order inside long fresh none =
+    let less : k < from = ltb-true k from is in
+    ap (λ (x : Cell). x.goes_on) (get_or_append_left (take from cells) (new ++ drop (to - from) (drop from cells)) (blank plain) k
+    (omega (arith, less, length-take-le from cells (omega (arith, order, inside))))
+    ∙ get_or-take from cells k (blank plain) less)
+    ∙ none
+none-first false k from to new cells is order inside long fresh none =
+    let past : from ≤ k = ltb-false k from is in
+    ap (λ (x : Cell). x.goes_on) (get_or-append_right (take from cells) (new ++ drop (to - from) (drop from cells)) from k (blank plain)
+    (length-take-le from cells (omega (arith, order, inside))) past)
+    ∙ none-second _ k from to new cells refl past order long fresh none
+
+pub none-change : (k from to : ℕ) (new cells : List Cell) → from ≤ to → to ≤ length cells → length new ≡ to - from → NoneGoesOn new
+    → (cell_at k cells).goes_on ≡ false → (cell_at k (change from to (λ run. new) cells)).goes_on ≡ false
+none-change k from to new cells order inside long fresh none =
+    none-first _ k from to new (cut from (cut to cells)) refl order (omega (arith, inside, length-cut from (cut to cells), length-cut to cells)) long fresh
+    (none-cut k from (cut to cells) (none-cut k to cells none))
+
+pub none-glyphs : (k place : ℕ) (text : List ℕ) (style : Style) (link : ℕ) (cells : List Cell) → place + length text ≤ length cells
+    → (cell_at k cells).goes_on ≡ false → (cell_at k (with_glyphs place text style link cells)).goes_on ≡ false
+none-glyphs k place [] style link cells inside none = none
+none-glyphs k place (c ∷ text) style link cells inside none =
+    let one : List Cell = change place (place + 1) (λ run. glyph 1 c style link) cells in
+    let one_long : length one ≡ length cells = length-put place 1 c style link cells (omega arith) (omega arith) (omega (arith, inside)) in
+    none-glyphs k (place + 1) text style link one (omega (arith, inside, one_long))
+    (none-change k place (place + 1) (glyph 1 c style link) cells (omega arith) (omega (arith, inside)) (omega arith) (glyph-none 1 c style link _ refl) none)

@@ -26,7 +26,7 @@ use Rattle.ansi_screen.specs.Laws.{printing}
 use Rattle.ansi_screen.specs.TextsProof.{after_all-append}
 use Rattle.ansi_screen.proofs.RunLemmas.{length-cut, drop-past}
 use Rattle.ansi_screen.proofs.WholeLemmas.{length-glyph, length-put, length-going_on}
-use Rattle.ansi_screen.proofs.GoingLemmas.{going-same, going-read, going-glyphs, going-far}
+use Rattle.ansi_screen.proofs.GoingLemmas.{going-same, going-read, going-glyphs, going-far, glyph-none, none-change, none-glyphs}
 use Rattle.ansi_screen.proofs.RowLemmas.{same-within}
 use Rattle.ansi_screen.proofs.RangeLemmas.{no_column-below, two_columns-below}
 
@@ -143,6 +143,24 @@ run-far text d far inside =
     ap (λ l. record d { cells = l; cursor = record d.cursor { column = d.cursor.column + length text } })
     (going-far (row_end d) (here d + length text + 1) d.cells (with_glyphs (here d) text d.cursor.style d.link d.cells)
     (drop-glyphs (here d + length text + 1) (here d) text d.cursor.style d.link d.cells (omega arith) (omega (arith, far, inside))) (omega (arith, far)))
+
+-- Where it did not go on before, it does not either.
+pub glyph-ends : (n c : ℕ) (d : Display) → 1 ≤ n → n ≤ 2 → here d + n ≤ length d.cells → row_goes_on d ≡ false → with_cells_of n c d ≡ with_glyph n c d
+unfolding with_glyph with_cells_of
+glyph-ends n c d some few inside ends =
+    let run : List Cell = glyph n c d.cursor.style d.link in
+    let new : List Cell = change (here d) (here d + n) (λ old. run) d.cells in
+    ap (λ l. record d { cells = l; cursor = record d.cursor { column = d.cursor.column + n } })
+    (going-same (row_goes_on d) (row_end d) new
+    (none-change (row_end d - 1) (here d) (here d + n) run d.cells (omega arith) inside (length-glyph n c d.cursor.style d.link _ refl some few ∙ omega arith)
+    (glyph-none n c d.cursor.style d.link _ refl) ends ∙ sym ends))
+
+pub run-ends : (text : List ℕ) (d : Display) → here d + length text ≤ length d.cells → row_goes_on d ≡ false
+    → with_run text d ≡ row_going_on (row_goes_on d) (with_run text d)
+run-ends text d inside ends =
+    ap (λ l. record d { cells = l; cursor = record d.cursor { column = d.cursor.column + length text } })
+    (going-same (row_goes_on d) (row_end d) (with_glyphs (here d) text d.cursor.style d.link d.cells)
+    (none-glyphs (row_end d - 1) (here d) text d.cursor.style d.link d.cells inside ends ∙ sym ends))
 
 -- of which no row leaves
 not-full : (a b e : Bool) → (a && b && false && e) ≡ false

@@ -1,8 +1,6 @@
--- Far from the end of the row the cells of the run are all; else the row says again what it said.
-use Rattle.std.proofs.Common.{◌+◌, ◌<◌, ◌≤◌, Bool, length, ap, sym, ◌∙◌, subst, arith}
+-- Far from the end of the row the cells of the run are all.
+use Rattle.std.proofs.Common.{◌+◌, ◌<◌, ◌≤◌, length, sym, ◌∙◌, subst, arith}
 use Rattle.ansi_screen.specs.Display.{Display, row_end}
-use Rattle.ansi_screen.specs.Edits.{row_going_on}
-use Rattle.ansi_screen.specs.Runs.{with_run}
 use Rattle.ansi_screen.proofs.InsertLemmas.{row-inside}
 use Rattle.ansi_screen.proofs.PrintedLemmas.{run-far, run-printed}
 use Rattle.ansi_screen.proofs.display.Display.put_run.Goals as goal
@@ -27,7 +25,4 @@ returns-else-self-run c =
     let inside : row_end d ≤ length d.cells =
     subst (λ (e : Display). row_end e ≤ length e.cells) c.self.view_is
     (omega (arith, c.width.ensures.filled, row-inside c.self.inside.cursor.row grid.width grid.height c.self.invariant.2.sized.cursor_row)) in
-    c.set_goes_on.ensures
-    ∙ (ap (λ (e : Display). row_going_on c.goes_on-goes_on.result e) c.put_cells_of_run-else-self-run.ensures
-    ∙ (ap (λ (t : Bool). row_going_on t (with_run text d)) c.goes_on-goes_on.ensures
-    ∙ sym (run-printed text d c.requires.ascii c.requires.room inside)))
+    c.put_run_at_end.ensures ∙ sym (run-printed text d c.requires.ascii c.requires.room inside)

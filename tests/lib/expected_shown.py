@@ -107,15 +107,24 @@ SHOWN_USUAL_ROWS = [
     ("that line, and more before its line feed", ENDS_LATER + BAR, b"b\n"),
 ]
 
+WIDE = "漢".encode()
+
 # The same of a screen of 20x6.
 SHOWN_NARROW_ROWS = [
     ("a bar wider than the screen", b"a" * 25 + b"\r\x1b[Kb\n", b"a" * 20 + b"\nb\n"),
     ("one of the width of the screen", b"a" * 20 + b"\r\x1b[Kb\n", b"b\n"),
     ("EL at a pending wrap", b"a" * 19 + b"b\x1b[Kc\n", b"a" * 19 + b"c\n"),
+    # (so tmux 3.3a has them too, by `capture-pane -J`)
+    ("a row that wrapped, and is written over", b"a" * 21 + b"\x1b[A\r" + b"b" * 20 + b"\n", b"b" * 20 + b"a\n"),
+    ("one that ends in a wide character", b"a" * 18 + WIDE + b"a\x1b[A\r" + b"b" * 20 + b"\n", b"b" * 20 + b"a\n"),
+    ("wide characters over it", b"a" * 21 + b"\x1b[A\r" + WIDE * 10 + b"\n", WIDE * 10 + b"a\n"),
+    ("characters that are repeated over it", b"a" * 21 + b"\x1b[A\rb\x1b[19b\n", b"b" * 20 + b"a\n"),
+    ("a row that is erased first", b"a" * 21 + b"\x1b[A\r\x1b[2K" + b"b" * 20 + b"\n", b"b" * 20 + b"\na\n"),
+    # (tmux has a space where the other half was)
+    ("half of a wide character at its end", b"a" * 18 + WIDE + b"a\x1b[A\x1b[19Gb\n", b"a" * 18 + b"ba\n"),
 ]
 
 SCROLLS = 2_000_000  # the bytes of a stream of which each few move a whole screen
-WIDE = "漢".encode()
 
 
 def line_of(unit, count):

@@ -137,6 +137,7 @@ print((taken() - before) / 1e6)
 # it (`capture-pane -J`). A wide character that goes to the next row leaves a blank, which is no part of the line.
 JOINED = [("abcdef", "abcdef\n"), ("ab  cd", "ab  cd\n"), ("abcd\r\nef", "abcd\nef\n"), ("ab\r\n\r\nc", "ab\n\nc\n"), ("", "")]
 JOINED += [("abc\u4e2dd", "abc\u4e2dd\n"), ("a\u4e2d\u4e2dx", "a\u4e2d\u4e2dx\n")]
+JOINED += [("abcde\x1b[A\rwxyz", "wxyze\n"), ("ab\u4e2de\x1b[A\rwxyz", "wxyze\n"), ("abcde\x1b[A\r\x1b[2Kwxyz", "wxyz\ne\n")]
 
 
 def joined_cases(ansi):

@@ -232,7 +232,9 @@ class Display:
                 self.insert_characters(n)
             parts = [(c, LEFT), (" ", RIGHT)] if n == 2 else [(c, WHOLE)]
             glyph = [(*part, "", False, self.cursor.style) for part in parts]
+            on = self.cells[self.row_end() - 1][3]
             self.change(self.here(), self.here() + n, lambda run: glyph)
+            self.goes_on(on)
             self.cursor.column += n
 
     def mark(self, mark):

@@ -2,7 +2,7 @@
 use Rattle.std.proofs.Common.{◌≡◌, ℕ, ◌+◌, ◌-◌, ◌*◌, ◌<◌, ◌≤◌, Bool, true, false, ◌&&◌, ◌⊎◌, zero, suc, List, [], ◌∷◌, ◌++◌, length, get_or, take, drop, set, refl, ap, sym, ◌∙◌, subst, inl, inr, arith}
 use Rattle.std.specs.Prelude.{min, max, replicate, nat_lt, if◌then◌else◌}
 use Rattle.std.proofs.lemmas.Bool.{cases_lt, false≢true}
-use Rattle.std.proofs.lemmas.List.{places, ext_get_or, get_or_past, get_or-replicate, set-get_or, length-replicate, take_at}
+use Rattle.std.proofs.lemmas.List.{places, ext_get_or, get_or_past, get_or-replicate, length-replicate, take_at}
 use mathlib.Core.Bool.{beq, not}
 use Rattle.ansi_style.specs.declared.style.Style.{Style}
 use Rattle.ansi_style.specs.Style.{plain}
@@ -255,11 +255,6 @@ whole-new n w style = record {
   paired = paired-replicate n (blank style) refl refl;
   rows_begin = λ row. right-replicate n (row * w) (blank style) refl;
 }
-
--- a row that goes on already, or not
-pub going-same : (on : Bool) (end : ℕ) (xs : List Cell) → (cell_at (end - 1) xs).goes_on ≡ on → xs ≡ going_on on end xs
-unfolding going_on
-going-same on end xs is = rw (← is) (sym (set-get_or xs (end - 1) (blank plain)))
 
 -- What a row of `n` cells is: of so many, with halves in pairs, and blank beside some columns.
 pub record Kept (n : ℕ) (v : Written) (cells : List Cell) : Type 0 where

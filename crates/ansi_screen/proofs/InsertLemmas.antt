@@ -18,7 +18,8 @@ use Rattle.ansi_screen.proofs.CellLemmas.{cut-first}
 use Rattle.ansi_screen.proofs.PairLemmas.{paired-drop, clear-cut, clear-cut_other, whole-cut, length-run}
 use Rattle.ansi_screen.proofs.RunLemmas.{right_at, cut-on, cut-off, drop-past, take-cut, right-behind, right-inside, other-set, length-cut}
 use Rattle.ansi_screen.proofs.WholeLemmas.{whole-inserted, length-inserted, length-glyph, whole-glyph, length-put, whole-going_on, length-going_on}
-use Rattle.ansi_screen.proofs.RowLemmas.{in_row, put_by, put-by, drawn-if}
+use Rattle.ansi_screen.proofs.RowLemmas.{in_row, room_by, over_by, put_by, put-by, drawn-if}
+use Rattle.ansi_screen.proofs.GoingLemmas.{going-twice, going-right, going-far}
 use Rattle.ansi_screen.proofs.KeptLemmas.{columns-few}
 
 -- the cells before a border, once a wide character on it is cut
@@ -256,17 +257,6 @@ right-past n front rest long =
 first-of : (front rest : List Cell) → 0 < length front → right_at 0 (front ++ rest) ≡ right_at 0 front
 first-of front rest some = ap (λ (x : Cell). is_right x.part) (get_or_append_left front rest (blank plain) 0 some)
 
-right-flag : (xs : List Cell) (i j : ℕ) → right_at j (set xs i (record (cell_at i xs) { goes_on = false })) ≡ right_at j xs
-right-flag [] i j = refl
-right-flag (x ∷ xs) zero zero = refl
-right-flag (x ∷ xs) zero (suc j) = refl
-right-flag (x ∷ xs) (suc i) zero = refl
-right-flag (x ∷ xs) (suc i) (suc j) = right-flag xs i j
-
-going-right : (end j : ℕ) (cells : List Cell) → right_at j (going_on false end cells) ≡ right_at j cells
-unfolding going_on
-going-right end j cells = right-flag cells (end - 1) j
-
 going-front : (n end : ℕ) (cells : List Cell) → n < end → take n (going_on false end cells) ≡ take n cells
 unfolding going_on
 going-front n end cells below = take-set-le n cells (end - 1) (record (cell_at (end - 1) cells) { goes_on = false }) (omega (arith, below))
@@ -339,6 +329,14 @@ module _ (start j n m end : ℕ) (space : Cell) (new cells : List Cell)
       ∙ put-form start (suc n) new front blanks rest front-long blanks_long free free_next
 
   -- the same, where room for more was made
+  inserted-room : inserted (suc n + suc m) start end space cells
+      ≡ front ++ (replicate (suc n) space ++ (replicate (suc m) space ++ (trimmed j behind ++ drop end base)))
+  inserted-room =
+      let last : List Cell = trimmed j behind ++ drop end base in
+      insert-form start j (suc n + suc m) end space cells base (omega (arith, sum)) (omega arith) (omega (arith, base-long, inside)) clear free_end (cuts-paired start j cells are)
+      ∙ ap (λ l. front ++ l)
+      (ap (λ l. l ++ last) (sym (replicate-append-replicate (suc n) (suc m) space)) ∙ append_assoc (replicate (suc n) space) (replicate (suc m) space) last)
+
   inserted-more : change start (start + suc n) (λ run. new) (inserted (suc n + suc m) start end space cells)
       ≡ front ++ (new ++ (replicate (suc m) space ++ (trimmed j behind ++ drop end base)))
   inserted-more =
@@ -349,18 +347,26 @@ module _ (start j n m end : ℕ) (space : Cell) (new cells : List Cell)
       let first : List Cell = front ++ blanks in
       let blanks_long : length blanks ≡ suc n = length-replicate (suc n) space in
       let first_long : length first ≡ start + suc n = omega (arith, length-append front blanks, front-long, blanks_long) in
-      let parted : replicate (suc n + suc m) space ++ last ≡ blanks ++ rest =
-      ap (λ l. l ++ last) (sym (replicate-append-replicate (suc n) (suc m) space)) ∙ append_assoc blanks more last in
       let free : right_at start (front ++ (blanks ++ rest)) ≡ false = right-past start front (blanks ++ rest) front-long ∙ whole in
       let free_next : right_at (start + suc n) (front ++ (blanks ++ rest)) ≡ false =
       ap (right_at (start + suc n)) (sym (append_assoc front blanks rest)) ∙ (right-past (start + suc n) first rest first_long ∙ whole) in
-      ap (change start (start + suc n) (λ run. new))
-      (insert-form start j (suc n + suc m) end space cells base (omega (arith, sum)) (omega arith) (omega (arith, base-long, inside)) clear free_end (cuts-paired start j cells are)
-      ∙ ap (λ l. front ++ l) parted)
+      ap (change start (start + suc n) (λ run. new)) inserted-room
       ∙ put-form start (suc n) new front blanks rest front-long blanks_long free free_next
 
   abbrev next : ℕ
   next = start + suc n
+
+  -- behind the glyph it is as the room that was made
+  pub insert-far : drop next (change start (start + suc n) (λ run. new) (inserted (suc n + suc m) start end space cells))
+      ≡ drop next (inserted (suc n + suc m) start end space cells)
+  insert-far =
+      let rest : List Cell = replicate (suc m) space ++ (trimmed j behind ++ drop end base) in
+      let past : (mid : List Cell) → length mid ≡ suc n → drop next (front ++ (mid ++ rest)) ≡ rest =
+      λ mid mid_long.
+      ap (drop next) (sym (append_assoc front mid rest))
+      ∙ drop_at (front ++ mid) rest next (omega (arith, length-append front mid, front-long, mid_long)) in
+      ap (drop next) inserted-more
+      ∙ (past new long ∙ sym (ap (drop next) inserted-room ∙ past (replicate (suc n) space) (length-replicate (suc n) space)))
 
   once-front : take next once ≡ front ++ new
   once-front =
@@ -403,7 +409,7 @@ module _ (start j n m end : ℕ) (space : Cell) (new cells : List Cell)
       sym (drop-take next j flagged)
       ∙ (ap (drop next) (going-front (next + j) end once (omega (arith, sum))) ∙ (drop-take next j once ∙ ap (take j) once-behind)) in
       let right : right_at j (drop next flagged) ≡ right_at j all =
-      right-drop next j flagged ∙ (going-right end (next + j) once ∙ (sym (right-drop next j once) ∙ ap (right_at j) once-behind)) in
+      right-drop next j flagged ∙ (going-right false end (next + j) once ∙ (sym (right-drop next j once) ∙ ap (right_at j) once-behind)) in
       trimmed-same j (drop next flagged) behind
       (first
       ∙ (take-append-le j kept (drop end base) (omega (arith, kept-long))
@@ -420,7 +426,7 @@ module _ (start j n m end : ℕ) (space : Cell) (new cells : List Cell)
       let flagged : List Cell = going_on false end once in
       ap (λ l. inserted (suc m) next end space (going_on false end l)) inserted-once
       ∙ (insert-form next j (suc m) end space flagged flagged (omega (arith, sum)) (omega arith) (omega (arith, going-long end once, once-long, base-long, inside))
-      (going-right end next once ∙ free-next) (going-right end end once ∙ free-end) (cuts-free next j flagged (going-right end next once ∙ free-next))
+      (going-right false end next once ∙ free-next) (going-right false end end once ∙ free-end) (cuts-free next j flagged (going-right false end next once ∙ free-next))
       ∙ (ap (λ l. l ++ (replicate (suc m) space ++ (trimmed j (drop next flagged) ++ drop end flagged))) (going-front next end once (omega (arith, sum)) ∙ once-front)
       ∙ (ap (λ l. (front ++ new) ++ (replicate (suc m) space ++ (l ++ drop end flagged))) kept-trimmed
       ∙ (ap (λ l. (front ++ new) ++ (replicate (suc m) space ++ (trimmed j behind ++ l))) (going-behind end once (omega (arith, sum)) ∙ once-end)
@@ -437,6 +443,15 @@ insert-on start j zero m end space new cells some more sum whole long inside are
 insert-on start j (suc n) zero end space new cells some more sum whole long inside are free_end base_are = absurd (omega (arith, more))
 insert-on start j (suc n) (suc m) end space new cells some more sum whole long inside are free_end base_are =
     insert-more start j n m end space new cells sum whole long inside are free_end (clear-cut start cells are) base_are
+
+far-on : (start j n m end : ℕ) (space : Cell) (new cells : List Cell) → 0 < n → 0 < m
+    → start + (j + m) + n ≡ end → is_right space.part ≡ false → length new ≡ n
+    → end ≤ length cells → ArePaired None cells → right_at end cells ≡ false → ArePaired None (cut start cells)
+    → drop (start + n) (change start (start + n) (λ run. new) (inserted (n + m) start end space cells)) ≡ drop (start + n) (inserted (n + m) start end space cells)
+far-on start j zero m end space new cells some more sum whole long inside are free_end base_are = absurd (omega (arith, some))
+far-on start j (suc n) zero end space new cells some more sum whole long inside are free_end base_are = absurd (omega (arith, more))
+far-on start j (suc n) (suc m) end space new cells some more sum whole long inside are free_end base_are =
+    insert-far start j n m end space new cells sum whole long inside are free_end (clear-cut start cells are) base_are
 
 -- what a character is shown as
 abbrev character_of : ℕ → Display → ℕ
@@ -496,15 +511,23 @@ module _ (c : ℕ) (may : is_shown c ≡ true) (some : 0 < columns c) where
         length-inserted d.width d.cursor.row (here d) (row_end d) n (space d) ended refl refl (omega arith) (omega (arith, fits)) (omega arith)
         (omega (arith, ended-long, inside)) ∙ ended-long
 
+    abbrev over : List Cell
+    over = over_by true n (character_of c d) d d.cells
+
+    abbrev says : Bool
+    says = (cell_at (row_end d - 1) (room_by true n d d.cells)).goes_on
+
     one-whole : IsWhole d.width (after_one d).cells
     one-whole =
-        whole-glyph d.width d.cursor.row (here d) n (character_of c d) d.cursor.style d.link (inserted n (here d) (row_end d) (space d) ended) some few
-        (omega arith) (omega (arith, fits)) (omega (arith, room-long, inside, fits)) room-whole
+        whole-going_on d.width says (row_end d) over
+        (whole-glyph d.width d.cursor.row (here d) n (character_of c d) d.cursor.style d.link (inserted n (here d) (row_end d) (space d) ended) some few
+        (omega arith) (omega (arith, fits)) (omega (arith, room-long, inside, fits)) room-whole)
 
     one-long : length (after_one d).cells ≡ length d.cells
     one-long =
-        length-put (here d) n (character_of c d) d.cursor.style d.link (inserted n (here d) (row_end d) (space d) ended) some few
-        (omega (arith, room-long, inside, fits)) ∙ room-long
+        length-going_on says (row_end d) over
+        ∙ (length-put (here d) n (character_of c d) d.cursor.style d.link (inserted n (here d) (row_end d) (space d) ended) some few
+        (omega (arith, room-long, inside, fits)) ∙ room-long)
 
     -- room for m columns more
     one-more : (m : ℕ) → 0 < m → d.cursor.column + (n + m) ≤ d.width
@@ -513,14 +536,25 @@ module _ (c : ℕ) (may : is_shown c ≡ true) (some : 0 < columns c) where
         let there : here (after_one d) ≡ here d + n = omega arith in
         let end : row_end d ≡ here d + (d.width - d.cursor.column - n - m + m) + n = omega (arith, fit) in
         let glyphs : List Cell = glyph n (character_of c d) d.cursor.style d.link in
-        let step : inserted m (here d + n) (row_end d) (space d) (going_on false (row_end d) (after_one d).cells)
-        ≡ change (here d) (here d + n) (λ run. glyphs) (inserted (n + m) (here d) (row_end d) (space d) ended) =
+        let room : List Cell = inserted (n + m) (here d) (row_end d) (space d) ended in
+        let put : List Cell = change (here d) (here d + n) (λ run. glyphs) room in
+        let glyphs_long : length glyphs ≡ n = length-glyph n (character_of c d) d.cursor.style d.link _ refl some few in
+        let step : inserted m (here d + n) (row_end d) (space d) (going_on false (row_end d) over) ≡ put =
         insert-on (here d) (d.width - d.cursor.column - n - m) n m (row_end d) (space d) glyphs ended some more (sym end) refl
-        (length-glyph n (character_of c d) d.cursor.style d.link _ refl some few) (omega (arith, ended-long, inside)) ended-whole.paired end-free
+        glyphs_long (omega (arith, ended-long, inside)) ended-whole.paired end-free
         (whole-cut d.width (here d) ended ended-whole).paired in
+        let behind : drop (here d + n) put ≡ drop (here d + n) room =
+        far-on (here d) (d.width - d.cursor.column - n - m) n m (row_end d) (space d) glyphs ended some more (sym end) refl
+        glyphs_long (omega (arith, ended-long, inside)) ended-whole.paired end-free
+        (whole-cut d.width (here d) ended ended-whole).paired in
+        let far : put ≡ going_on (cell_at (row_end d - 1) room).goes_on (row_end d) put = going-far (row_end d) (here d + n) room put behind (omega (arith, more, end)) in
+        let twice : going_on false (row_end d) (after_one d).cells ≡ going_on false (row_end d) over = going-twice false says (row_end d) over in
         again-by c (opened (n + m) d) false refl may some fits
         ∙ ap (λ cells. record (in_row cells (d.cursor.column + n) d) { inserts = false })
-        (sym step ∙ ap (λ k. inserted m k (row_end d) (space d) (going_on false (row_end d) (after_one d).cells)) (sym there))
+        (sym far
+        ∙ (sym step
+        ∙ (ap (λ l. inserted m (here d + n) (row_end d) (space d) l) (sym twice)
+        ∙ ap (λ k. inserted m k (row_end d) (space d) (going_on false (row_end d) (after_one d).cells)) (sym there))))
 
   -- So all of them are inserted at once.
   pub inserted-times : (k : ℕ) (d : Display) → d.inserts ≡ true → IsWhole d.width d.cells → row_end d ≤ length d.cells

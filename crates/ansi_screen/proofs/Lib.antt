@@ -8,6 +8,7 @@ pub mod MovedLemmas
 pub mod CoveredLemmas
 pub mod ShiftLemmas
 pub mod PairLemmas
+pub mod GoingLemmas
 pub mod WholeLemmas
 pub mod KeptLemmas
 pub mod Walk
@@ -26,6 +27,7 @@ pub mod LawLemmas
 pub mod ScrollLemmas
 pub mod PlainLemmas
 pub mod RowLemmas
+pub mod AnewLemmas
 pub mod InsertLemmas
 pub mod EditLemmas
 pub mod DamageLemmas

@@ -15,15 +15,16 @@ use Rattle.anstyle_parse.proofs.Canonical.Twice.{replay-only}
 pub use Rattle.ansi_style.specs.Style.{plain}
 use Rattle.ansi_screen.specs.declared.cell.Cell.{Cell}
 use Rattle.ansi_screen.specs.declared.cell.Part.TheVariants.{Whole}
-use Rattle.ansi_screen.specs.Cells.{plain_cell, blank, is_right, cell_at, cut, within, change}
+use Rattle.ansi_screen.specs.Cells.{plain_cell, blank, is_right, cell_at, cut, within, change, going_on}
 use Rattle.ansi_screen.specs.Display.{Display, home, fresh, blanks}
 use Rattle.ansi_screen.specs.Edits.{index}
 use Rattle.ansi_screen.specs.Widths.{is_shown, columns}
-use Rattle.ansi_screen.specs.Print.{wrapped, with_room, with_glyph, put, shown, printed}
+use Rattle.ansi_screen.specs.Print.{wrapped, with_room, with_cells_of, with_glyph, put, shown, printed}
 use Rattle.ansi_screen.specs.After.{State, new_state, executed, after, after_all, Shows}
 use Rattle.ansi_screen.specs.Laws.{carriage_return, line_feed, printing, typing, lines_text, IsNarrow, FitsIn, line_cells, page}
 use Rattle.ansi_screen.proofs.CellLemmas.{cut-none, set-one}
 use Rattle.ansi_screen.proofs.PairLemmas.{right-replicate}
+use Rattle.ansi_screen.proofs.GoingLemmas.{none-blanks, none-behind, going-none}
 use Rattle.ansi_screen.proofs.LawLemmas.{after_all-append}
 
 -- a screen with these cells, and else as a new one but for the cursor's place
@@ -62,10 +63,19 @@ put-first front n place x long =
 print-first : (width height row column n c : ℕ) (front : List Cell) → is_shown c ≡ true → columns c ≡ 1
     → length front ≡ row * width + column → column < width
     → printed c (at width height (and_blanks front (suc n)) row column) ≡ at width height (and_blanks (front ++ glyph_of c ∷ []) n) row (column + 1)
-unfolding printed shown put wrapped with_room with_glyph
+unfolding printed shown put wrapped with_room with_glyph with_cells_of
 print-first width height row column n c front is one long room =
     let fits : nat_lt width (column + 1) ≡ false = le-ltb width (column + 1) (omega arith) in
-    rw (is, one, fits, fits) (ap (λ cells. at width height cells row (column + 1)) (put-first front n (row * width + column) (glyph_of c) long))
+    let end : ℕ = row * width + width in
+    let old : List Cell = and_blanks front (suc n) in
+    let new : List Cell = and_blanks (front ++ glyph_of c ∷ []) n in
+    let put : change (row * width + column) (row * width + column + 1) (λ run. glyph_of c ∷ []) old ≡ new = put-first front n (row * width + column) (glyph_of c) long in
+    let past : length front ≤ end - 1 = omega (arith, long, room) in
+    let none : going_on (cell_at (end - 1) old).goes_on end new ≡ new =
+    going-none end old new (none-behind (end - 1) front (replicate (suc n) (blank plain)) past (none-blanks (suc n) plain))
+    (ap (λ l. (cell_at (end - 1) l).goes_on) (append_assoc front (glyph_of c ∷ []) (replicate n (blank plain)))
+    ∙ none-behind (end - 1) front (glyph_of c ∷ replicate n (blank plain)) past (refl, none-blanks n plain)) in
+    rw (is, one, fits, fits) (ap (λ cells. at width height cells row (column + 1)) (ap (going_on (cell_at (end - 1) old).goes_on end) put ∙ none))
 
 -- a line that has room
 print-line : (line : List ℕ) (width height row column n : ℕ) (front : List Cell) (s : State)

@@ -1,5 +1,5 @@
 -- Texts that come into their cells at once.
-use Rattle.std.proofs.Common.{◌≡◌, ◌≢◌, ℕ, zero, suc, ◌+◌, ◌-◌, ◌<◌, ◌≤◌, Bool, true, false, ◌&&◌, List, [], ◌∷◌, ◌++◌, length, get_or, take, refl, ap, ap₂, sym, ◌∙◌, subst, arith}
+use Rattle.std.proofs.Common.{◌≡◌, ◌≢◌, ℕ, zero, suc, ◌+◌, ◌-◌, ◌<◌, ◌≤◌, Bool, true, false, ◌&&◌, List, [], ◌∷◌, ◌++◌, length, get_or, take, drop, refl, ap, ap₂, sym, ◌∙◌, subst, arith}
 use Rattle.std.specs.Prelude.{nat_lt, nat_le, not, ◌==◌, Option}
 use Rattle.std.proofs.lemmas.Bool.{le-ltb, lt-leb, ne_eqb, and_parts, leb-true}
 use Rattle.std.specs.Prelude.{min}
@@ -9,11 +9,13 @@ use Rattle.anstyle_parse.specs.Stream.Bytes.{is_within}
 use Rattle.anstyle_parse.specs.Stream.Call.{print}
 use Rattle.anstyle_parse.specs.Stream.Items.{EachIs}
 use Rattle.ansi_screen.specs.declared.cell.Cell.{Cell}
-use Rattle.ansi_screen.specs.Cells.{change}
-use Rattle.ansi_screen.specs.Display.{Display, here}
+use Rattle.ansi_style.specs.declared.style.Style.{Style}
+use Rattle.ansi_screen.specs.Cells.{cut, change, going_on}
+use Rattle.ansi_screen.specs.Display.{Display, here, row_end}
+use Rattle.ansi_screen.specs.Edits.{row_goes_on, row_going_on}
 use Rattle.ansi_screen.specs.Widths.{is_shown, columns}
-use Rattle.ansi_screen.specs.Print.{glyph, wrapped, with_room, with_glyph, put, shown, draws, printed}
-use Rattle.ansi_screen.specs.Runs.{is_printed_ascii, with_glyphs, printed_all, HasRoom}
+use Rattle.ansi_screen.specs.Print.{glyph, wrapped, with_room, with_cells_of, with_glyph, put, shown, draws, printed}
+use Rattle.ansi_screen.specs.Runs.{is_printed_ascii, with_glyphs, with_run, printed_all, HasRoom}
 use Rattle.ansi_screen.specs.After.{State, repeatable, after, after_all}
 use Rattle.ansi_screen.specs.Laws.{is_wrapping}
 use Rattle.ansi_screen.specs.Text.{first_rows}
@@ -22,14 +24,11 @@ use Rattle.ansi_screen.proofs.LeavingTable.{leaving, before_leaving}
 use Rattle.ansi_screen.proofs.LeftLemmas.{rows_left-is}
 use Rattle.ansi_screen.specs.Laws.{printing}
 use Rattle.ansi_screen.specs.TextsProof.{after_all-append}
+use Rattle.ansi_screen.proofs.RunLemmas.{length-cut, drop-past}
+use Rattle.ansi_screen.proofs.WholeLemmas.{length-glyph, length-put, length-going_on}
+use Rattle.ansi_screen.proofs.GoingLemmas.{going-same, going-read, going-glyphs, going-far, glyph-none, none-change, none-glyphs}
+use Rattle.ansi_screen.proofs.RowLemmas.{same-within}
 use Rattle.ansi_screen.proofs.RangeLemmas.{no_column-below, two_columns-below}
-
--- the display with a text put into the cursor's row, and the cursor after it
-abbrev pub with_run : List ℕ → Display → Display
-with_run text d = record d {
-  cells = with_glyphs (here d) text d.cursor.style d.link d.cells;
-  cursor = record d.cursor { column = d.cursor.column + length text };
-}
 
 -- printed ASCII is shown in one column
 within-parts : (c : ℕ) → is_printed_ascii c ≡ true → (0x20 ≤ c) × (c ≤ 0x7E)
@@ -49,8 +48,8 @@ columns-ascii c high = rw (no_column-below c (omega arith), two_columns-below c 
 
 -- a character of one column, where the row has room
 one-printed : (c : ℕ) (d : Display) → is_shown c ≡ true → columns c ≡ 1 → d.inserts ≡ false → draws d.cursor.charsets ≡ false
-    → d.cursor.column + 1 ≤ d.width → printed c d ≡ with_run (c ∷ []) d
-unfolding printed shown put wrapped with_room with_glyph
+    → d.cursor.column + 1 ≤ d.width → printed c d ≡ row_going_on (row_goes_on d) (with_run (c ∷ []) d)
+unfolding printed shown put wrapped with_room with_glyph with_cells_of
 one-printed c d is one stays letters room =
     let fits : nat_lt d.width (d.cursor.column + 1) ≡ false = le-ltb d.width (d.cursor.column + 1) room in
     rw (is, letters, one, fits, fits, stays) refl
@@ -72,7 +71,7 @@ shown-there n m c v d new same is from some room stays put =
     (subst (λ (x : Display). x.inserts ≡ false) same stays)
 
 module _ (c : ℕ) (text : List ℕ) (d : Display) (ascii : is_printed_ascii c ≡ true) (room : HasRoom (length (c ∷ text)) d) where
-  first-printed : printed c d ≡ with_run (c ∷ []) d
+  first-printed : printed c d ≡ row_going_on (row_goes_on d) (with_run (c ∷ []) d)
   first-printed =
       let parts = within-parts c ascii in
       one-printed c d (shown-ascii c parts.0 parts.1) (columns-ascii c parts.1) room.stays room.letters (omega (arith, room.fits))
@@ -82,20 +81,86 @@ module _ (c : ℕ) (text : List ℕ) (d : Display) (ascii : is_printed_ascii c �
       subst (HasRoom (length text)) (sym first-printed) (record { fits = omega (arith, room.fits); stays = room.stays; letters = room.letters })
 
 -- and a text of them
-pub run-printed : (text : List ℕ) (d : Display) → EachIs is_printed_ascii text → HasRoom (length text) d → printed_all text d ≡ with_run text d
-run-printed [] d are room =
+pub run-printed : (text : List ℕ) (d : Display) → EachIs is_printed_ascii text → HasRoom (length text) d → row_end d ≤ length d.cells
+    → printed_all text d ≡ row_going_on (row_goes_on d) (with_run text d)
+run-printed [] d are room inside =
     let none : d.cursor.column ≡ d.cursor.column + length {A = ℕ} [] = omega arith in
     ap (λ k. record d { cursor = record d.cursor { column = k } }) none
-run-printed (c ∷ text) d are room =
-    let x : Display = with_run (c ∷ []) d in
+    ∙ ap (λ l. record (with_run [] d) { cells = l }) (going-same (row_goes_on d) (row_end d) d.cells refl)
+run-printed (c ∷ text) d are room inside =
+    let on : Bool = row_goes_on d in
+    let end : ℕ = row_end d in
+    let one : List Cell = change (here d) (here d + 1) (λ run. glyph 1 c d.cursor.style d.link) d.cells in
+    let x : Display = row_going_on on (with_run (c ∷ []) d) in
+    let below : here d + 1 ≤ end = omega (arith, room.fits) in
+    let one_long : length one ≡ length d.cells = length-put (here d) 1 c d.cursor.style d.link d.cells (omega arith) (omega arith) (omega (arith, below, inside)) in
+    let x_long : length x.cells ≡ length d.cells = length-going_on on end one ∙ one_long in
     let place : here x ≡ here d + 1 = omega arith in
     let columns_then : x.cursor.column + length text ≡ d.cursor.column + length (c ∷ text) = omega arith in
-    run-printed text (printed c d) are.1 (first-room c text d are.0 room)
-    ∙ (ap (with_run text) (first-printed c text d are.0 room)
-    ∙ ap₂ (λ n k. record d {
-      cells = with_glyphs n text d.cursor.style d.link (change (here d) (here d + 1) (λ run. glyph 1 c d.cursor.style d.link) d.cells);
+    let then_inside : row_end x ≤ length x.cells = omega (arith, inside, x_long) in
+    let first : printed c d ≡ x = first-printed c text d are.0 room in
+    let says : row_goes_on x ≡ on = going-read on end one (omega (arith, below)) (omega (arith, inside, one_long)) in
+    run-printed text (printed c d) are.1 (first-room c text d are.0 room) (subst (λ (e : Display). row_end e ≤ length e.cells) (sym first) then_inside)
+    ∙ (ap (λ (e : Display). row_going_on (row_goes_on e) (with_run text e)) first
+    ∙ (ap (λ t. row_going_on t (with_run text x)) says
+    ∙ (ap₂ (λ n k. record d {
+      cells = going_on on end (with_glyphs n text d.cursor.style d.link (going_on on end one));
       cursor = record d.cursor { column = k };
-    }) place columns_then)
+    }) place columns_then
+    ∙ ap (λ l. record d { cells = l; cursor = record d.cursor { column = d.cursor.column + length (c ∷ text) } })
+    (going-glyphs on on end (here d + 1) text d.cursor.style d.link one (omega (arith, room.fits)) (omega (arith, inside, one_long))))))
+
+-- Far from the end of its row a character changes nothing of what the row says.
+drop-change : (n from to : ℕ) (how : List Cell → List Cell) (cells : List Cell) → from ≤ to → to < n → to ≤ length cells
+    → length (how (take (to - from) (drop from (cut from (cut to cells))))) ≡ to - from → drop n (change from to how cells) ≡ drop n cells
+drop-change n from to how cells order past inside long =
+    let both : List Cell = cut from (cut to cells) in
+    (same-within from n from to how both (omega arith) order (omega arith) (omega (arith, inside, length-cut from (cut to cells), length-cut to cells)) long).behind
+    ∙ (drop-past n from (cut to cells) (omega arith) ∙ drop-past n to cells past)
+
+drop-glyphs : (n place : ℕ) (text : List ℕ) (style : Style) (link : ℕ) (cells : List Cell) → place + length text < n → place + length text ≤ length cells
+    → drop n (with_glyphs place text style link cells) ≡ drop n cells
+drop-glyphs n place [] style link cells past inside = refl
+drop-glyphs n place (c ∷ text) style link cells past inside =
+    let one : List Cell = change place (place + 1) (λ run. glyph 1 c style link) cells in
+    let one_long : length one ≡ length cells = length-put place 1 c style link cells (omega arith) (omega arith) (omega (arith, inside)) in
+    drop-glyphs n (place + 1) text style link one (omega (arith, past)) (omega (arith, inside, one_long))
+    ∙ drop-change n place (place + 1) (λ run. glyph 1 c style link) cells (omega arith) (omega (arith, past)) (omega (arith, inside)) (omega arith)
+
+pub glyph-far : (n c : ℕ) (d : Display) → 1 ≤ n → n ≤ 2 → d.cursor.column + n + 1 < d.width → row_end d ≤ length d.cells
+    → with_cells_of n c d ≡ with_glyph n c d
+unfolding with_glyph with_cells_of
+glyph-far n c d some few far inside =
+    let new : List Cell = change (here d) (here d + n) (λ run. glyph n c d.cursor.style d.link) d.cells in
+    ap (λ l. record d { cells = l; cursor = record d.cursor { column = d.cursor.column + n } })
+    (going-far (row_end d) (here d + n + 1) d.cells new
+    (drop-change (here d + n + 1) (here d) (here d + n) (λ run. glyph n c d.cursor.style d.link) d.cells (omega arith) (omega arith) (omega (arith, far, inside))
+    (length-glyph n c d.cursor.style d.link _ refl some few ∙ omega arith)) (omega (arith, far)))
+
+pub run-far : (text : List ℕ) (d : Display) → d.cursor.column + length text + 1 < d.width → row_end d ≤ length d.cells
+    → with_run text d ≡ row_going_on (row_goes_on d) (with_run text d)
+run-far text d far inside =
+    ap (λ l. record d { cells = l; cursor = record d.cursor { column = d.cursor.column + length text } })
+    (going-far (row_end d) (here d + length text + 1) d.cells (with_glyphs (here d) text d.cursor.style d.link d.cells)
+    (drop-glyphs (here d + length text + 1) (here d) text d.cursor.style d.link d.cells (omega arith) (omega (arith, far, inside))) (omega (arith, far)))
+
+-- Where it did not go on before, it does not either.
+pub glyph-ends : (n c : ℕ) (d : Display) → 1 ≤ n → n ≤ 2 → here d + n ≤ length d.cells → row_goes_on d ≡ false → with_cells_of n c d ≡ with_glyph n c d
+unfolding with_glyph with_cells_of
+glyph-ends n c d some few inside ends =
+    let run : List Cell = glyph n c d.cursor.style d.link in
+    let new : List Cell = change (here d) (here d + n) (λ old. run) d.cells in
+    ap (λ l. record d { cells = l; cursor = record d.cursor { column = d.cursor.column + n } })
+    (going-same (row_goes_on d) (row_end d) new
+    (none-change (row_end d - 1) (here d) (here d + n) run d.cells (omega arith) inside (length-glyph n c d.cursor.style d.link _ refl some few ∙ omega arith)
+    (glyph-none n c d.cursor.style d.link _ refl) ends ∙ sym ends))
+
+pub run-ends : (text : List ℕ) (d : Display) → here d + length text ≤ length d.cells → row_goes_on d ≡ false
+    → with_run text d ≡ row_going_on (row_goes_on d) (with_run text d)
+run-ends text d inside ends =
+    ap (λ l. record d { cells = l; cursor = record d.cursor { column = d.cursor.column + length text } })
+    (going-same (row_goes_on d) (row_end d) (with_glyphs (here d) text d.cursor.style d.link d.cells)
+    (none-glyphs (row_end d - 1) (here d) text d.cursor.style d.link d.cells inside ends ∙ sym ends))
 
 -- of which no row leaves
 not-full : (a b e : Bool) → (a && b && false && e) ≡ false
@@ -133,14 +198,14 @@ last_after-at (c ∷ text) zero last inside = refl
 last_after-at (c ∷ text) (suc n) last inside = last_after-at text n (repeatable c) (omega arith)
 
 -- what a display and a screen are once a run is put
-pub put-display : (text : List ℕ) (v d : Display) (place : ℕ) (cells : List Cell) → v ≡ d → EachIs is_printed_ascii text → HasRoom (length text) d
+pub put-cells : (text : List ℕ) (v d : Display) (place : ℕ) (cells : List Cell) → v ≡ d
     → place ≡ here d → cells ≡ with_glyphs place text v.cursor.style v.link v.cells
-    → record v { cells = cells; cursor = record v.cursor { column = v.cursor.column + length text } } ≡ printed_all text d
-put-display text v d place cells same are room there put =
+    → record v { cells = cells; cursor = record v.cursor { column = v.cursor.column + length text } } ≡ with_run text d
+put-cells text v d place cells same there put =
     let at : place ≡ here v = there ∙ ap here (sym same) in
     ap (λ l. record v { cells = l; cursor = record v.cursor { column = v.cursor.column + length text } })
     (put ∙ ap (λ n. with_glyphs n text v.cursor.style v.link v.cells) at)
-    ∙ (sym (run-printed text v are (subst (HasRoom (length text)) (sym same) room)) ∙ ap (printed_all text) same)
+    ∙ ap (with_run text) same
 
 pub put-state : (run : List ℕ) (n : ℕ) (v s : State) (d : Display) (last : Option ℕ) (x : ℕ) → v ≡ s → 0 < n → n ≤ length run
     → d ≡ printed_all (take n run) v.display → last ≡ repeatable x → x ≡ get_or run (n - 1) 0

@@ -9,7 +9,7 @@ use Rattle.ansi_screen.specs.History.{Kept}
 use Rattle.ansi_screen.specs.Moves.{tabbed, tabbed_back, cleared_stops}
 use Rattle.ansi_screen.specs.Edits.{erased_part, inserted_characters, rows_up, rows_down, is_in_margins, inserted_lines, deleted_lines, reverse_index}
 use Rattle.ansi_screen.specs.Text.{is_unprinted, used, used_rows}
-use Rattle.ansi_screen.specs.Print.{with_room, with_glyph, put, marked}
+use Rattle.ansi_screen.specs.Print.{with_room, with_cells_of, with_glyph, put, marked}
 use Rattle.ansi_screen.specs.Modes.{with_charset, restored, with_origin, with_margins, to_alternate, to_main, with_alternate, softly_reset, with_private_mode, with_mode, with_modes, first_field}
 use Rattle.ansi_screen.specs.After.{count, moved}
 
@@ -66,7 +66,7 @@ unfolding with_room
 stays-room n d = stays-if d.inserts d _ _ (stays-inserted n d) refl
 
 stays-glyph : (n c : ℕ) (d : Display) → Stays d (with_glyph n c d)
-unfolding with_glyph
+unfolding with_glyph with_cells_of
 stays-glyph n c d = refl
 
 pub stays-put : (n c : ℕ) (d : Display) → Stays d (put n c d)

@@ -22,10 +22,10 @@ use Rattle.ansi_screen.specs.Display.{Display, Picture, here, row_start, row_end
 use Rattle.ansi_screen.specs.History.{Kept, with_left}
 use Rattle.ansi_screen.specs.Links.{links_after, link_after}
 use Rattle.ansi_screen.specs.Moves.{to_row, to_column, settled, up, down, to_line, line_of, to_position, tabbed, tabbed_back, stop_before, column_of, with_stop, cleared_stops}
-use Rattle.ansi_screen.specs.Edits.{with_cells, space, row_going_on, erased_cells, erased_part, erased_display, erased_line, erased_characters, deleted_characters, inserted_characters, rows_up, rows_down, scrolled_up, scrolled_down, is_in_margins, inserted_lines, deleted_lines, index, reverse_index, renewed, swapped, main_screen, row_above_ended, erases_from_row, erases_first, kept_by_erase, erases_all, kept_by_scroll}
+use Rattle.ansi_screen.specs.Edits.{with_cells, space, row_goes_on, row_going_on, erased_cells, erased_part, erased_display, erased_line, erased_characters, deleted_characters, inserted_characters, rows_up, rows_down, scrolled_up, scrolled_down, is_in_margins, inserted_lines, deleted_lines, index, reverse_index, renewed, swapped, main_screen, row_above_ended, erases_from_row, erases_first, kept_by_erase, erases_all, kept_by_scroll}
 use Rattle.ansi_screen.specs.Text.{first_rows, printed_rows}
 use Rattle.ansi_screen.specs.Widths.{is_shown, columns}
-use Rattle.ansi_screen.specs.Print.{wrapped, with_room, with_glyph, put, marked, shown, draws, printed, printed_again}
+use Rattle.ansi_screen.specs.Print.{wrapped, with_room, with_cells_of, with_glyph, put, marked, shown, draws, printed, printed_again}
 use Rattle.ansi_screen.specs.Modes.{with_charset, restored, with_origin, with_margins, to_alternate, to_main, with_alternate, softly_reset, with_private_mode, with_mode, with_modes, first_field}
 use Rattle.ansi_screen.specs.After.{State, function_of, first_of, second_of, is_bare, count, is_known, edited, moved, set as set_by, controlled, sequenced, executed, escaped, designated, repeated, is_repeat, displayed}
 use Rattle.ansi_screen.specs.Reachable.{IsScreen}
@@ -343,8 +343,9 @@ module _ (prints : ℕ → Type 0) (switches : Type 0) (P : Display → Type 0) 
 
   module _ (c : ℕ) (drawing : Bool) (may : prints c) (is : is_shown c ≡ true) where
     walk-glyph : (n : ℕ) (d : Display) → columns (drawn_if drawing c) ≡ n → 1 ≤ n → n ≤ 2 → d.cursor.column + n ≤ d.width → Walk (with_glyph n (drawn_if drawing c)) d
-    unfolding with_glyph
-    walk-glyph n d wide some few fits = by (write n c drawing may is wide some few fits) refl
+    unfolding with_glyph with_cells_of
+    walk-glyph n d wide some few fits =
+        next (row_going_on (row_goes_on d)) (by (write n c drawing may is wide some few fits) refl) (walk-going_on (row_goes_on d) (with_cells_of n (drawn_if drawing c) d))
 
     walk-room : (n : ℕ) (d : Display) (t : Bool) → columns (drawn_if drawing c) ≡ n → 1 ≤ n → n ≤ 2 → d.cursor.column + n ≤ d.width
         → Walk (λ x. with_glyph n (drawn_if drawing c) (if t then inserted_characters n x else x)) d

@@ -57,8 +57,8 @@ marked_before mark place cells =
     let at = if is_right (cell_at (place - 1) cells).part then place - 2 else place - 1 in
     slice_set cells at (with_mark mark (cell_at at cells))
 
--- Whether the row that ends at a place goes on in the next one is kept in its last cell: so what
--- erases or overwrites this cell takes it away, and where rows move it goes with them.
+-- Whether the row that ends at a place goes on in the next one is kept in its last cell: so what erases this cell takes
+-- it away, and where rows move it goes with them. Printing leaves it (`Print`).
 unfoldable pub going_on : Bool → ℕ → List Cell → List Cell
 going_on on end cells = slice_set cells (end - 1) (record (cell_at (end - 1) cells) { goes_on = on })
 

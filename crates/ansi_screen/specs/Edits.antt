@@ -11,7 +11,7 @@
 -- erases where a terminal's description has no ED 2; before ED 2 VTE does so (`clear_screen`); xterm does not.
 use Rattle.std.specs.Prelude.{ℕ, ◌+◌, ◌-◌, ◌*◌, min, Option, Bool, true, false, ◌&&◌, ◌||◌, not, ◌==◌, nat_lt, nat_le, List, length, if◌then◌else◌}
 use Rattle.ansi_screen.specs.declared.cell.Cell.{Cell}
-use Rattle.ansi_screen.specs.Cells.{blank, going_on, within, change, erased, moved_back, moved_on, deleted, inserted}
+use Rattle.ansi_screen.specs.Cells.{blank, cell_at, going_on, within, change, erased, moved_back, moved_on, deleted, inserted}
 use Rattle.ansi_screen.specs.Display.{Display, fresh, here, row_start, row_end}
 use Rattle.ansi_screen.specs.History.{Kept, with_left}
 use Rattle.ansi_screen.specs.Moves.{to_row, to_column}
@@ -67,6 +67,10 @@ erased_line kind d = erased_part kind (row_start d) (row_end d) (row_above_ended
 -- ECH
 unfoldable pub erased_characters : ℕ → Display → Display
 erased_characters n d = erased_cells (here d) (min (row_end d) (here d + n)) d
+
+-- whether the cursor's row goes on in the next row
+abbrev pub row_goes_on : Display → Bool
+row_goes_on d = (cell_at (row_end d - 1) d.cells).goes_on
 
 -- the cursor's row goes on in the next row, or does not
 abbrev pub row_going_on : Bool → Display → Display

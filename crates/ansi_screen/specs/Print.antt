@@ -1,7 +1,9 @@
 -- Printing a character.
 --
 -- Sources: xterm's ctlseqs (DECAWM, IRM, REP, "Designate G0 Character Set"); the VT510 manual,
--- "DECAWM"; for line drawing the VT220's "DEC Special Graphics", in Unicode's characters.
+-- "DECAWM"; for line drawing the VT220's "DEC Special Graphics", in Unicode's characters. Whether a row goes on is a flag
+-- of the row in xterm (LINEWRAPPED) and tmux (GRID_LINE_WRAPPED): autowrap sets it, and no character that is printed
+-- takes it away.
 use Rattle.std.specs.Prelude.{ℕ, ◌+◌, ◌-◌, Bool, true, ◌==◌, nat_lt, nat_le, List, [], ◌∷◌, slice_index, if◌then◌else◌}
 use Rattle.anstyle_parse.specs.Stream.Bytes.{is_within}
 use Rattle.ansi_style.specs.declared.style.Style.{Style}
@@ -11,7 +13,7 @@ use Rattle.ansi_screen.specs.declared.place.Charsets.{Charsets}
 use Rattle.ansi_screen.specs.Cells.{printed_cell, change, marked_before}
 use Rattle.ansi_screen.specs.Display.{Display, here}
 use Rattle.ansi_screen.specs.Moves.{to_column, settled}
-use Rattle.ansi_screen.specs.Edits.{with_cells, row_going_on, index, inserted_characters}
+use Rattle.ansi_screen.specs.Edits.{with_cells, row_goes_on, row_going_on, index, inserted_characters}
 use Rattle.ansi_screen.specs.Widths.{is_shown, columns}
 
 -- the cells of a character of one column, or of two, in a link or in none
@@ -32,12 +34,16 @@ wrapped n d =
 unfoldable pub with_room : ℕ → Display → Display
 with_room n d = if d.inserts then inserted_characters n d else d
 
--- the character stands at the cursor, in its style and in the link in force; the cursor goes past it
-unfoldable pub with_glyph : ℕ → ℕ → Display → Display
-with_glyph n c d = record d {
+-- cells of its own at the cursor, in its style and in the link in force; the cursor goes past them
+unfoldable pub with_cells_of : ℕ → ℕ → Display → Display
+with_cells_of n c d = record d {
   cells = change (here d) (here d + n) (λ run. glyph n c d.cursor.style d.link) d.cells;
   cursor = record d.cursor { column = d.cursor.column + n };
 }
+
+-- The character stands at the cursor, and its row goes on as before: also where its last cell is overwritten.
+unfoldable pub with_glyph : ℕ → ℕ → Display → Display
+with_glyph n c d = row_going_on (row_goes_on d) (with_cells_of n c d)
 
 -- a wide character in the last column without autowrap has no room, and nothing is shown
 unfoldable pub put : ℕ → ℕ → Display → Display

@@ -1,13 +1,13 @@
 -- Runs of printed ASCII in a text, and what they do to a row all at once.
 --
 -- Source: ECMA-48 has a graphic character stand where the cursor is, which then moves on by a column.
-use Rattle.std.specs.Prelude.{◌≡◌, ℕ, ◌+◌, ◌≤◌, Bool, false, List, [], ◌∷◌, map}
+use Rattle.std.specs.Prelude.{◌≡◌, ℕ, ◌+◌, ◌≤◌, Bool, false, List, [], ◌∷◌, length, map}
 use Rattle.anstyle_parse.specs.Stream.Bytes.{is_within}
 use Rattle.ansi_style.specs.declared.style.Style.{Style}
 use Rattle.ansi_screen.specs.declared.cell.Cell.{Cell}
 use Rattle.ansi_screen.specs.declared.cell.Part.TheVariants.{Whole}
 use Rattle.ansi_screen.specs.Cells.{change, printed_cell}
-use Rattle.ansi_screen.specs.Display.{Display}
+use Rattle.ansi_screen.specs.Display.{Display, here}
 use Rattle.ansi_screen.specs.Print.{glyph, draws, printed}
 
 -- ASCII that is printed
@@ -23,6 +23,13 @@ with_glyphs place (c ∷ text) style link cells =
 -- the cells in which they stand
 abbrev pub glyphs : List ℕ → Style → ℕ → List Cell
 glyphs text style link = map (λ c. printed_cell c style link Whole) text
+
+-- the display with these characters in the cells from the cursor on, which goes past them
+abbrev pub with_run : List ℕ → Display → Display
+with_run text d = record d {
+  cells = with_glyphs (here d) text d.cursor.style d.link d.cells;
+  cursor = record d.cursor { column = d.cursor.column + length text };
+}
 
 -- the display after characters that are printed one after another
 abbrev pub printed_all : List ℕ → Display → Display

@@ -7,13 +7,13 @@ use Rattle.anstyle_parse.specs.Stream.Call.{Call, print}
 use Rattle.ansi_style.specs.Style.{plain}
 use Rattle.ansi_screen.specs.declared.cell.Cell.{Cell}
 use Rattle.ansi_screen.specs.declared.place.Place.{Place}
-use Rattle.ansi_screen.specs.Cells.{blank, is_right, cell_at, change}
-use Rattle.ansi_screen.specs.Display.{Display, here, home}
+use Rattle.ansi_screen.specs.Cells.{blank, is_right, cell_at, change, going_on}
+use Rattle.ansi_screen.specs.Display.{Display, home}
 use Rattle.ansi_screen.specs.Edits.{erased_cells}
-use Rattle.ansi_screen.specs.Print.{glyph, with_glyph, draws}
+use Rattle.ansi_screen.specs.Print.{glyph, with_cells_of, with_glyph, draws}
 use Rattle.ansi_screen.specs.After.{State, after, after_all, designated, escaped}
 use Rattle.ansi_screen.specs.Reachable.{IsWhole, HasColors, AreCells}
-use Rattle.ansi_screen.proofs.WholeLemmas.{length-put}
+use Rattle.ansi_screen.proofs.WholeLemmas.{length-put, length-going_on}
 use Rattle.ansi_screen.proofs.LawLemmas.{after_all-append}
 use Rattle.screen_draw.specs.Draw.{escape, sequence, select, plain_calls, place_calls, wrap_calls, space_if, saved_calls, screen_calls, cells_calls, first_pen}
 use Rattle.screen_draw.specs.Redrawn.{as_drawn}
@@ -52,19 +52,23 @@ module _ (base : Display) (open_is : IsOpen base) (cells : List Cell) (fill : le
     (saved : Place) (row : saved.row < base.height) (column : saved.column ≤ base.width) (colored : HasColors saved.style) where
   -- what is printed so that a wrap is pending
   spaced : List Cell
-  spaced = change (saved.row * base.width + (base.width - 1)) (saved.row * base.width + (base.width - 1) + 1) (λ run. glyph 1 0x20 plain base.link) cells
+  spaced =
+      going_on (cell_at (saved.row * base.width + base.width - 1) cells).goes_on (saved.row * base.width + base.width)
+      (change (saved.row * base.width + (base.width - 1)) (saved.row * base.width + (base.width - 1) + 1) (λ run. glyph 1 0x20 plain base.link) cells)
 
   spaced-long : length spaced ≡ length cells
   unfolding spaced
   spaced-long =
       let inside : saved.row * base.width + base.width ≤ base.height * base.width = row-inside saved.row base.width base.height row in
       let wide : 2 ≤ base.width = open_is.wide in
-      length-put (saved.row * base.width + (base.width - 1)) 1 0x20 plain base.link cells (omega arith) (omega arith) (omega arith)
+      length-going_on (cell_at (saved.row * base.width + base.width - 1) cells).goes_on (saved.row * base.width + base.width)
+      (change (saved.row * base.width + (base.width - 1)) (saved.row * base.width + (base.width - 1) + 1) (λ run. glyph 1 0x20 plain base.link) cells)
+      ∙ length-put (saved.row * base.width + (base.width - 1)) 1 0x20 plain base.link cells (omega arith) (omega arith) (omega arith)
 
   space-printed : saved.column ≡ base.width → (middle : State)
       → middle.display ≡ on base cells (record home { row = saved.row; column = base.width - 1; is_relative = saved.is_relative })
       → (after_all (wrap_calls (space_if true)) middle).display ≡ on base spaced (record home { row = saved.row; column = saved.column; is_relative = saved.is_relative })
-  unfolding spaced with_glyph
+  unfolding spaced with_glyph with_cells_of
   space-printed pending middle is =
       let wide : 2 ≤ base.width = open_is.wide in
       let q : Place = record home { row = saved.row; column = base.width - 1; is_relative = saved.is_relative } in
@@ -78,7 +82,7 @@ module _ (base : Display) (open_is : IsOpen base) (cells : List Cell) (fill : le
       ∙ (after-print 0x20 1 plainly space-shown (ap (λ (d : Display). draws d.cursor.charsets) at) space-one (omega arith)
       (omega (arith, column_is, width_is)) (ap (λ (d : Display). d.inserts) at ∙ open_is.replaces)
       ∙ (ap (with_glyph 1 0x20) at
-      ∙ ap (λ k. on base (change (here (on base cells q)) (here (on base cells q) + 1) (λ run. glyph 1 0x20 plain base.link) cells) (record q { column = k })) end))
+      ∙ ap (λ k. on base spaced (record q { column = k })) end))
 
   pub after-saved_at : (s : State) (t : Bool) → nat_eq saved.column base.width ≡ t → s.display ≡ on base cells home
       → (saved.is_relative ≡ true → (base.top ≤ saved.row) × (saved.row < base.bottom))

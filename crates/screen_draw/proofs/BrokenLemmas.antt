@@ -31,6 +31,13 @@ module _ (styled : Cell → Style) where
   pub mended-free : (x : Cell) → is_right (mended styled x).part ≡ false
   mended-free x = mended_at x _ refl
 
+  mended-none_at : (x : Cell) (t : Bool) → is_right x.part ≡ t → x.goes_on ≡ false → (mended styled x).goes_on ≡ false
+  mended-none_at x true is none = rw is refl
+  mended-none_at x false is none = rw is none
+
+  pub mended-none : (x : Cell) → x.goes_on ≡ false → (mended styled x).goes_on ≡ false
+  mended-none x none = mended-none_at x _ refl none
+
   pub mended-same : (x : Cell) → is_right x.part ≡ false → mended styled x ≡ x
   mended-same x free = rw free refl
 

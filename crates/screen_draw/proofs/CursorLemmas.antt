@@ -20,7 +20,7 @@ use Rattle.ansi_screen.proofs.ContentLemmas.{cells-at}
 use Rattle.screen_draw.specs.Draw.{is_erased, select, place_calls, wrap_calls, cursor_calls, last_cell, last_column}
 use Rattle.screen_draw.specs.Redrawn.{printed_part, as_printed, as_drawn, drawn_cells}
 use Rattle.screen_draw.proofs.CanvasLemmas.{on, set-front, after-style}
-use Rattle.screen_draw.proofs.PaintLemmas.{character-narrow, character-wide, drawn-printed}
+use Rattle.screen_draw.proofs.PaintLemmas.{character-narrow, character-wide, drawn-printed, drawn-none, front-none}
 use Rattle.screen_draw.proofs.ScreenLemmas.{right-half}
 use Rattle.screen_draw.proofs.SavedLemmas.{after-place_calls}
 use Rattle.screen_draw.proofs.RestLemmas.{over}
@@ -175,6 +175,7 @@ module _ (wraps is_visible : Bool) (d : Display) (screen : IsScreen d) (contents
       ap (λ l. set l n (as_printed x)) cells ∙ (ap (λ k. set (front ++ (as_drawn x ∷ back)) k (as_printed x)) (sym long) ∙ set-front front back (as_drawn x) (as_printed x)) in (
         x.style,
         character-narrow (full_by wraps is_visible d) front back q letter refl refl there (behind-free (suc n) next) x (as_drawn x) styled at holds left right refl (omega arith) (drawn-right x _ refl ∙ right)
+            (front-none (as_drawn x ∷ []) back _ (drawn-none x, tt) (omega arith))
             ∙ (ap (λ k. on (full_by wraps is_visible d) (front ++ (as_printed x ∷ back)) (record q { column = k })) end
             ∙ ap (λ l. on (full_by wraps is_visible d) l (record q { column = d.cursor.column })) (sym set_is)),
       )
@@ -219,6 +220,7 @@ module _ (wraps is_visible : Bool) (d : Display) (screen : IsScreen d) (contents
       ∙ (ap (λ y. front ++ (y ∷ (as_printed r ∷ back))) left_is ∙ ap (λ y. front ++ (as_printed x ∷ (y ∷ back))) right_is))))) in (
         x.style,
         character-wide (full_by wraps is_visible d) front back q letter refl refl there (behind-free (suc (suc n)) next) x (as_drawn x) (as_drawn r) styled at holds pair.0 refl (omega arith) (drawn-right x _ refl ∙ free)
+            (front-none (as_drawn x ∷ (as_drawn r ∷ [])) back _ (drawn-none x, (drawn-none r, tt)) (omega arith))
             ∙ (ap (λ k. on (full_by wraps is_visible d) (front ++ (as_printed x ∷ (plain_cell 0x20 x.style Right ∷ back))) (record q { column = k })) end
             ∙ ap (λ l. on (full_by wraps is_visible d) l (record q { column = d.cursor.column })) (sym set_is)),
       )

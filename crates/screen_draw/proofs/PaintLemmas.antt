@@ -1,7 +1,8 @@
 -- Cells that are drawn one after another: the screen shows those so far, and blanks behind.
-use Rattle.std.proofs.Common.{◌≡◌, ℕ, suc, ◌+◌, ◌-◌, ◌*◌, ◌<◌, ◌≤◌, true, false, List, [], ◌∷◌, ◌++◌, length, refl, ap, sym, ◌∙◌, arith}
-use Rattle.std.specs.Prelude.{◌&&◌, replicate, if◌then◌else◌}
+use Rattle.std.proofs.Common.{◌≡◌, ℕ, zero, suc, ◌+◌, ◌-◌, ◌*◌, ◌<◌, ◌≤◌, Bool, true, false, List, [], ◌∷◌, ◌++◌, length, refl, ap, sym, ◌∙◌, arith}
+use Rattle.std.specs.Prelude.{◌&&◌, replicate, map, if◌then◌else◌}
 use Rattle.std.proofs.lemmas.Bool.{and_parts}
+use Rattle.std.proofs.lemmas.List.{get_or-append_right, get_or_append_left}
 use Rattle.anstyle_parse.specs.Stream.Call.{print}
 use Rattle.anstyle_parse.specs.Stream.Bytes.{is_within}
 use Rattle.ansi_style.specs.declared.style.Style.{Style}
@@ -13,17 +14,18 @@ use Rattle.ansi_screen.specs.declared.cell.Marks.TheVariants.{Unmarked, One, Two
 use Rattle.ansi_screen.specs.declared.cell.Part.{Part}
 use Rattle.ansi_screen.specs.declared.cell.Part.TheVariants.{Empty, Whole, Left, Right}
 use Rattle.ansi_screen.specs.declared.place.Place.{Place}
-use Rattle.ansi_screen.specs.Cells.{plain_cell, blank, is_right, cell_at, marked_before, with_mark, erased}
+use Rattle.ansi_screen.specs.Cells.{plain_cell, printed_cell, blank, is_right, cell_at, marked_before, with_mark, erased, going_on}
 use Rattle.ansi_screen.specs.Display.{Display, here}
 use Rattle.ansi_screen.specs.Edits.{with_cells, erased_cells}
 use Rattle.ansi_screen.specs.Text.{is_unmarked}
 use Rattle.ansi_screen.specs.Widths.{is_shown, columns, is_among}
-use Rattle.ansi_screen.specs.Print.{glyph, with_glyph, draws}
+use Rattle.ansi_screen.specs.Print.{glyph, with_cells_of, with_glyph, draws}
 use Rattle.ansi_screen.specs.After.{State, after, after_all}
 use Rattle.ansi_screen.specs.Reachable.{is_left, FitsPart, IsMark, AreMarks, IsCell}
+use Rattle.ansi_screen.proofs.GoingLemmas.{going-none, NoneGoesOn, none-at}
 use Rattle.screen_draw.specs.Draw.{is_empty, is_erased, is_fresh, drawn_character, marks_calls, character_calls, sequence}
 use Rattle.screen_draw.specs.Redrawn.{printed_part, as_printed, as_drawn}
-use Rattle.screen_draw.proofs.BrokenLemmas.{own_style, broken, mended-first, change-broken}
+use Rattle.screen_draw.proofs.BrokenLemmas.{own_style, broken, mended-none, mended-first, change-broken}
 use Rattle.screen_draw.proofs.CanvasLemmas.{on, at-front, set-front, change-front, after-print, after-mark, after-erase, after-erase_run}
 
 -- what is shown is drawn as it is
@@ -87,51 +89,91 @@ module _ (base : Display) (front back : List Cell) (p : Place) (letter : draws p
       ∙ ap (λ m. on base (front ++ (with_mark first (record x { marks = m }) ∷ back)) p) bare in
       one-mark second (record x { marks = One first }) (after (print (drawn_character first)) s) begun are.1 (there (record x { marks = One first }) refl)
 
+-- A row says in its last cell whether it goes on: where this is one of those from a place on,
+row-last : (row column width : ℕ) (front rest : List Cell) → row * width + column ≡ length front → column < width
+    → cell_at (row * width + width - 1) (front ++ rest) ≡ cell_at (width - 1 - column) rest
+row-last row column width front rest there inside =
+    get_or-append_right front rest (length front) (row * width + width - 1) (blank plain) refl (omega (arith, there, inside))
+    ∙ ap (λ k. cell_at k rest) (omega (arith, there, inside))
+
+-- and does not, no other that is painted does.
+broken-none : (k : ℕ) (xs : List Cell) → (cell_at k xs).goes_on ≡ false → (cell_at k (broken xs)).goes_on ≡ false
+broken-none k [] none = refl
+broken-none zero (x ∷ xs) none = mended-none own_style x none
+broken-none (suc k) (x ∷ xs) none = none
+
+painted-none : (k : ℕ) (x old : Cell) (back : List Cell) → x.goes_on ≡ false → (cell_at k (old ∷ back)).goes_on ≡ false
+    → (cell_at k (x ∷ broken back)).goes_on ≡ false
+painted-none zero x old back is none = is
+painted-none (suc k) x old back is none = broken-none k back none
+
+painted-none_two : (k : ℕ) (x y a b : Cell) (back : List Cell) → x.goes_on ≡ false → y.goes_on ≡ false → (cell_at k (a ∷ (b ∷ back))).goes_on ≡ false
+    → (cell_at k (x ∷ (y ∷ broken back))).goes_on ≡ false
+painted-none_two zero x y a b back is also none = is
+painted-none_two (suc k) x y a b back is also none = painted-none k y b back also none
+
 -- a character on blanks, or over what it was
 module _ (base : Display) (front back : List Cell) (p : Place) (letter : draws p.charsets ≡ false) (replaces : base.inserts ≡ false) (unlinked : base.link ≡ 0)
     (there : p.row * base.width + p.column ≡ length front) where
   after-narrow : (c : ℕ) (old : Cell) (s : State) → s.display ≡ on base (front ++ (old ∷ back)) p → is_shown c ≡ true → columns c ≡ 1
-      → p.column + 1 ≤ base.width → is_right old.part ≡ false
+      → p.column + 1 ≤ base.width → is_right old.part ≡ false → (cell_at (base.width - 1 - p.column) (old ∷ back)).goes_on ≡ false
       → (after (print (drawn_character c)) s).display ≡ on base (front ++ (plain_cell c p.style Whole ∷ broken back)) (record p { column = p.column + 1 })
-  unfolding with_glyph
-  after-narrow c old s is shows wide room free =
+  unfolding with_glyph with_cells_of
+  after-narrow c old s is shows wide room free none =
       let letters_there : draws s.display.cursor.charsets ≡ false = ap (λ (d : Display). draws d.cursor.charsets) is ∙ letter in
       let column : s.display.cursor.column ≡ p.column = ap (λ (d : Display). d.cursor.column) is in
       let width : s.display.width ≡ base.width = ap (λ (d : Display). d.width) is in
       let inserts : s.display.inserts ≡ false = ap (λ (d : Display). d.inserts) is ∙ replaces in
-      let end : p.row * base.width + p.column + 1 ≡ length front + 1 = omega arith in
+      let ends : ℕ = p.row * base.width + base.width in
+      let says : Bool = (cell_at (ends - 1) (front ++ (old ∷ back))).goes_on in
+      let x : Cell = printed_cell c p.style base.link Whole in
+      let before : says ≡ false = ap (λ (z : Cell). z.goes_on) (row-last p.row p.column base.width front (old ∷ back) there (omega arith)) ∙ none in
+      let painted : (cell_at (ends - 1) (front ++ (x ∷ broken back))).goes_on ≡ false =
+      ap (λ (z : Cell). z.goes_on) (row-last p.row p.column base.width front (x ∷ broken back) there (omega arith))
+      ∙ painted-none (base.width - 1 - p.column) x old back refl none in
       ap (λ k. (after (print k) s).display) (drawn-same c shows)
       ∙ (after-print c 1 s shows letters_there wide (omega arith) (rw (column, width) room) inserts
       ∙ (ap (with_glyph 1 c) is
-      ∙ (rw there (ap (λ cells. on base cells (record p { column = p.column + 1 }))
-      (change-broken front old [] back (λ run. glyph 1 c p.style base.link) (glyph 1 c p.style base.link) free (λ mid long. refl)))
+      ∙ (rw there (ap (λ cells. on base (going_on says ends cells) (record p { column = p.column + 1 }))
+      (change-broken front old [] back (λ run. glyph 1 c p.style base.link) (glyph 1 c p.style base.link) free (λ mid long. refl))
+      ∙ ap (λ cells. on base cells (record p { column = p.column + 1 })) (going-none ends (front ++ (old ∷ back)) (front ++ (x ∷ broken back)) before painted))
       ∙ ap (λ link. on base (front ++ (glyph 1 c p.style link ++ broken back)) (record p { column = p.column + 1 })) unlinked)))
 
   after-wide : (c : ℕ) (a b : Cell) (s : State) → s.display ≡ on base (front ++ (a ∷ (b ∷ back))) p → is_shown c ≡ true → columns c ≡ 2
-      → p.column + 2 ≤ base.width → is_right a.part ≡ false
+      → p.column + 2 ≤ base.width → is_right a.part ≡ false → (cell_at (base.width - 1 - p.column) (a ∷ (b ∷ back))).goes_on ≡ false
       → (after (print (drawn_character c)) s).display
       ≡ on base (front ++ (plain_cell c p.style Left ∷ (plain_cell 0x20 p.style Right ∷ broken back))) (record p { column = p.column + 2 })
-  unfolding with_glyph
-  after-wide c a b s is shows wide room free =
+  unfolding with_glyph with_cells_of
+  after-wide c a b s is shows wide room free none =
       let letters_there : draws s.display.cursor.charsets ≡ false = ap (λ (d : Display). draws d.cursor.charsets) is ∙ letter in
       let column : s.display.cursor.column ≡ p.column = ap (λ (d : Display). d.cursor.column) is in
       let width : s.display.width ≡ base.width = ap (λ (d : Display). d.width) is in
       let inserts : s.display.inserts ≡ false = ap (λ (d : Display). d.inserts) is ∙ replaces in
+      let ends : ℕ = p.row * base.width + base.width in
+      let says : Bool = (cell_at (ends - 1) (front ++ (a ∷ (b ∷ back)))).goes_on in
+      let x : Cell = printed_cell c p.style base.link Left in
+      let y : Cell = printed_cell 0x20 p.style base.link Right in
+      let before : says ≡ false = ap (λ (z : Cell). z.goes_on) (row-last p.row p.column base.width front (a ∷ (b ∷ back)) there (omega arith)) ∙ none in
+      let painted : (cell_at (ends - 1) (front ++ (x ∷ (y ∷ broken back)))).goes_on ≡ false =
+      ap (λ (z : Cell). z.goes_on) (row-last p.row p.column base.width front (x ∷ (y ∷ broken back)) there (omega arith))
+      ∙ painted-none_two (base.width - 1 - p.column) x y a b back refl refl none in
       ap (λ k. (after (print k) s).display) (drawn-same c shows)
       ∙ (after-print c 2 s shows letters_there wide (omega arith) (rw (column, width) room) inserts
       ∙ (ap (with_glyph 2 c) is
-      ∙ (rw there (ap (λ cells. on base cells (record p { column = p.column + 2 }))
-      (change-broken front a (b ∷ []) back (λ run. glyph 2 c p.style base.link) (glyph 2 c p.style base.link) free (λ mid long. refl)))
+      ∙ (rw there (ap (λ cells. on base (going_on says ends cells) (record p { column = p.column + 2 }))
+      (change-broken front a (b ∷ []) back (λ run. glyph 2 c p.style base.link) (glyph 2 c p.style base.link) free (λ mid long. refl))
+      ∙ ap (λ cells. on base cells (record p { column = p.column + 2 })) (going-none ends (front ++ (a ∷ (b ∷ back))) (front ++ (x ∷ (y ∷ broken back))) before painted))
       ∙ ap (λ link. on base (front ++ (glyph 2 c p.style link ++ broken back)) (record p { column = p.column + 2 })) unlinked)))
 
   -- a cell's character with its marks
   pub over-narrow : (cell old : Cell) (s : State) → s.display ≡ on base (front ++ (old ∷ back)) p → IsCell cell
       → is_left cell.part ≡ false → is_right cell.part ≡ false → p.style ≡ cell.style → p.column + 1 ≤ base.width → is_right old.part ≡ false
+      → (cell_at (base.width - 1 - p.column) (old ∷ back)).goes_on ≡ false
       → (after_all (character_calls cell) s).display ≡ on base (front ++ (as_printed cell ∷ broken back)) (record p { column = p.column + 1 })
-  over-narrow cell old s is holds left right style room free =
+  over-narrow cell old s is holds left right style room free none =
       let next : Place = record p { column = p.column + 1 } in
       let printed : (after (print (drawn_character cell.character)) s).display ≡ on base (front ++ (plain_cell cell.character p.style Whole ∷ broken back)) next =
-      after-narrow cell.character old s is holds.shown (fits-one cell.part cell.character cell.marks left right holds.fits) room free in
+      after-narrow cell.character old s is holds.shown (fits-one cell.part cell.character cell.marks left right holds.fits) room free none in
       let before : p.row * base.width + (p.column + 1) - 1 ≡ length front = omega arith in
       after-marks base front (broken back) next letter (omega arith) cell.marks (plain_cell cell.character p.style Whole) (after (print (drawn_character cell.character)) s)
       printed refl holds.marked
@@ -145,14 +187,15 @@ module _ (base : Display) (front back : List Cell) (p : Place) (letter : draws p
 
   pub over-wide : (cell a b : Cell) (s : State) → s.display ≡ on base (front ++ (a ∷ (b ∷ back))) p → IsCell cell
       → cell.part ≡ Left → p.style ≡ cell.style → p.column + 2 ≤ base.width → is_right a.part ≡ false
+      → (cell_at (base.width - 1 - p.column) (a ∷ (b ∷ back))).goes_on ≡ false
       → (after_all (character_calls cell) s).display
       ≡ on base (front ++ (as_printed cell ∷ (plain_cell 0x20 cell.style Right ∷ broken back))) (record p { column = p.column + 2 })
-  over-wide cell a b s is holds left style room free =
+  over-wide cell a b s is holds left style room free none =
       let next : Place = record p { column = p.column + 2 } in
       let two : columns cell.character ≡ 2 = rw left at holds.fits in
       let behind : List Cell = plain_cell 0x20 p.style Right ∷ broken back in
       let printed : (after (print (drawn_character cell.character)) s).display ≡ on base (front ++ (plain_cell cell.character p.style Left ∷ behind)) next =
-      after-wide cell.character a b s is holds.shown two room free in
+      after-wide cell.character a b s is holds.shown two room free none in
       let before : p.row * base.width + (p.column + 2) - 2 ≡ length front = omega arith in
       after-marks base front behind next letter (omega arith) cell.marks (plain_cell cell.character p.style Left) (after (print (drawn_character cell.character)) s)
       printed refl holds.marked
@@ -169,17 +212,19 @@ module _ (base : Display) (front back : List Cell) (p : Place) (letter : draws p
     (there : p.row * base.width + p.column ≡ length front) (free_end : is_right (cell_at 0 back).part ≡ false) where
   pub character-narrow : (cell old : Cell) (s : State) → s.display ≡ on base (front ++ (old ∷ back)) p → IsCell cell
       → is_left cell.part ≡ false → is_right cell.part ≡ false → p.style ≡ cell.style → p.column + 1 ≤ base.width → is_right old.part ≡ false
+      → (cell_at (base.width - 1 - p.column) (old ∷ back)).goes_on ≡ false
       → (after_all (character_calls cell) s).display ≡ on base (front ++ (as_printed cell ∷ back)) (record p { column = p.column + 1 })
-  character-narrow cell old s is holds left right style room free =
-      over-narrow base front back p letter replaces unlinked there cell old s is holds left right style room free
+  character-narrow cell old s is holds left right style room free none =
+      over-narrow base front back p letter replaces unlinked there cell old s is holds left right style room free none
       ∙ ap (λ l. on base (front ++ (as_printed cell ∷ l)) (record p { column = p.column + 1 })) (mended-first own_style back free_end)
 
   pub character-wide : (cell a b : Cell) (s : State) → s.display ≡ on base (front ++ (a ∷ (b ∷ back))) p → IsCell cell
       → cell.part ≡ Left → p.style ≡ cell.style → p.column + 2 ≤ base.width → is_right a.part ≡ false
+      → (cell_at (base.width - 1 - p.column) (a ∷ (b ∷ back))).goes_on ≡ false
       → (after_all (character_calls cell) s).display
       ≡ on base (front ++ (as_printed cell ∷ (plain_cell 0x20 cell.style Right ∷ back))) (record p { column = p.column + 2 })
-  character-wide cell a b s is holds left style room free =
-      over-wide base front back p letter replaces unlinked there cell a b s is holds left style room free
+  character-wide cell a b s is holds left style room free none =
+      over-wide base front back p letter replaces unlinked there cell a b s is holds left style room free none
       ∙ ap (λ l. on base (front ++ (as_printed cell ∷ (plain_cell 0x20 cell.style Right ∷ l))) (record p { column = p.column + 2 })) (mended-first own_style back free_end)
 
 -- erased cells, as erasing leaves them
@@ -218,6 +263,22 @@ erased-blank cell is holds =
 pub drawn-erased : (cell : Cell) → is_erased cell ≡ true → IsCell cell → as_drawn cell ≡ blank cell.style
 unfolding as_drawn
 drawn-erased cell is holds = rw is (erased-blank cell is holds)
+
+-- no row that is drawn goes on
+drawn-none_at : (cell : Cell) (t : Bool) → is_erased cell ≡ t → (as_drawn cell).goes_on ≡ false
+unfolding as_drawn
+drawn-none_at cell true is = rw is refl
+drawn-none_at cell false is = rw is refl
+
+pub drawn-none : (cell : Cell) → (as_drawn cell).goes_on ≡ false
+drawn-none cell = drawn-none_at cell _ refl
+
+pub all-drawn_none : (cells : List Cell) → NoneGoesOn (map as_drawn cells)
+all-drawn_none [] = tt
+all-drawn_none (cell ∷ cells) = (drawn-none cell, all-drawn_none cells)
+
+pub front-none : (cells back : List Cell) (k : ℕ) → NoneGoesOn cells → k < length cells → (cell_at k (cells ++ back)).goes_on ≡ false
+front-none cells back k none inside = ap (λ (x : Cell). x.goes_on) (get_or_append_left cells back (blank plain) k inside) ∙ none-at k cells none
 
 pub drawn-printed : (cell : Cell) → is_erased cell ≡ false → as_drawn cell ≡ as_printed cell
 unfolding as_drawn

@@ -2,6 +2,7 @@
 use Rattle.std.proofs.Common.{◌≡◌, ℕ, zero, suc, ◌+◌, ◌-◌, ◌*◌, ◌<◌, ◌≤◌, Bool, true, false, List, [], ◌∷◌, ◌++◌, length, take, drop, refl, ap, sym, ◌∙◌, arith, append_assoc, length-append}
 use Rattle.std.specs.Prelude.{⊤, ◌&&◌, ◌||◌, nat_lt, nat_eq, map, replicate, if◌then◌else◌, Option, None, Some}
 use Rattle.std.proofs.lemmas.Bool.{lt-ltb}
+use Rattle.std.proofs.lemmas.List.{length-map}
 use borrow.Author.Tests.{eqb-true}
 use Rattle.anstyle_parse.specs.Stream.Call.{Call}
 use Rattle.ansi_style.specs.declared.style.Style.{Style}
@@ -24,9 +25,9 @@ use Rattle.screen_draw.specs.Redrawn.{as_printed, as_drawn}
 use Rattle.screen_draw.specs.Alike.{are_alike}
 use Rattle.screen_draw.specs.Update.{move_calls, erased_run, erased_columns, is_done, change_calls, half_columns, brush_behind, row_calls, brush_after}
 use Rattle.screen_draw.proofs.AlikeLemmas.{Same, alike-same, alike-drawn}
-use Rattle.screen_draw.proofs.BrokenLemmas.{mended, first_mended, own_style, broken, mended-free, mended-same, mended-first, mended-append}
+use Rattle.screen_draw.proofs.BrokenLemmas.{mended, first_mended, own_style, broken, mended-free, mended-none, mended-same, mended-first, mended-append}
 use Rattle.screen_draw.proofs.CanvasLemmas.{on, after-position, after-style}
-use Rattle.screen_draw.proofs.PaintLemmas.{over-narrow, over-wide, erase-run, erased-part, drawn-erased, drawn-printed}
+use Rattle.screen_draw.proofs.PaintLemmas.{over-narrow, over-wide, erase-run, erased-part, drawn-erased, drawn-printed, drawn-none, all-drawn_none, front-none}
 use Rattle.screen_draw.proofs.ScreenLemmas.{right-half, right-erased, half-of_at, left-some, left-of}
 use Rattle.screen_draw.proofs.RestLemmas.{after-column}
 use Rattle.screen_draw.proofs.CursorLemmas.{left-erased, drawn-right, first-drawn}
@@ -303,10 +304,10 @@ module _ (base : Display) (row : ℕ) (below : row < base.height) (replaces : ba
   -- a character of one column
   step-narrow : (column : ℕ) (place : Place) (old new : Cell) (olds news front : List Cell) (s : State) → IsCell new
       → is_right new.part ≡ false → are_alike old new ≡ false → is_erased new ≡ false → is_left new.part ≡ false → place.is_relative ≡ false → draws place.charsets ≡ false
-      → column + suc (length news) ≡ base.width → row * base.width + column ≡ length front
+      → length olds ≡ length news → column + suc (length news) ≡ base.width → row * base.width + column ≡ length front
       → Painted front None place 0 (old ∷ olds) s → Next column place 0 old new olds news front s
   unfolding change_calls brush_behind is_done
-  step-narrow column place old new olds news front s holds right differs erased left absolute letter fits there (lost, is) =
+  step-narrow column place old new olds news front s holds right differs erased left absolute letter long fits there (lost, is) =
       let q : Place = record place { row = row; column = column; style = new.style } in
       let next : Place = record q { column = column + 1 } in
       let middle : State = after_all (style_calls place.style new.style) (after_all (move_calls place row column) s) in
@@ -315,7 +316,8 @@ module _ (base : Display) (row : ℕ) (below : row < base.height) (replaces : ba
       let ready : middle.display ≡ on base (front ++ (first ∷ rest)) q =
       made-at column place (front ++ (first ∷ rest)) new s absolute (omega arith) holds.colored is in
       let printed : (after_all (character_calls new) middle).display ≡ on base (front ++ (as_printed new ∷ broken rest)) next =
-      over-narrow base front rest q letter replaces unlinked there new first middle ready holds left right refl (omega arith) (mended-free lost (as_drawn old)) in
+      over-narrow base front rest q letter replaces unlinked there new first middle ready holds left right refl (omega arith) (mended-free lost (as_drawn old))
+      (front-none (first ∷ map as_drawn olds) back _ (mended-none lost (as_drawn old) (drawn-none old), all-drawn_none olds) (omega (arith, long, fits, length-map olds as_drawn))) in
       let none : left_style new ≡ None = left-none new left in
       let one : half_columns new.part ≡ 1 = one-column new.part left in
       let done : front ++ (as_printed new ∷ broken rest) ≡ (front ++ as_drawn new ∷ []) ++ (covered own_style 0 new.style olds ++ back) =
@@ -330,10 +332,10 @@ module _ (base : Display) (row : ℕ) (below : row < base.height) (replaces : ba
   -- a character of two
   step-wide : (column : ℕ) (place : Place) (old new other : Cell) (olds news front : List Cell) (s : State) → IsCell new
       → are_alike old new ≡ false → new.part ≡ Left → place.is_relative ≡ false → draws place.charsets ≡ false
-      → column + suc (suc (length news)) ≡ base.width → row * base.width + column ≡ length front → (mate : Cell)
+      → length olds ≡ length news → column + suc (suc (length news)) ≡ base.width → row * base.width + column ≡ length front → (mate : Cell)
       → Painted front None place 0 (old ∷ (other ∷ olds)) s → Next column place 0 old new (other ∷ olds) (mate ∷ news) front s
   unfolding change_calls brush_behind is_done
-  step-wide column place old new other olds news front s holds differs left absolute letter fits there mate (lost, is) =
+  step-wide column place old new other olds news front s holds differs left absolute letter long fits there mate (lost, is) =
       let q : Place = record place { row = row; column = column; style = new.style } in
       let next : Place = record q { column = column + 2 } in
       let middle : State = after_all (style_calls place.style new.style) (after_all (move_calls place row column) s) in
@@ -343,7 +345,9 @@ module _ (base : Display) (row : ℕ) (below : row < base.height) (replaces : ba
       let ready : middle.display ≡ on base (front ++ (first ∷ (as_drawn other ∷ rest))) q =
       made-at column place (front ++ (first ∷ (as_drawn other ∷ rest))) new s absolute (omega arith) holds.colored is in
       let printed : (after_all (character_calls new) middle).display ≡ on base (front ++ (as_printed new ∷ (half ∷ broken rest))) next =
-      over-wide base front rest q letter replaces unlinked there new first (as_drawn other) middle ready holds left refl (omega arith) (mended-free lost (as_drawn old)) in
+      over-wide base front rest q letter replaces unlinked there new first (as_drawn other) middle ready holds left refl (omega arith) (mended-free lost (as_drawn old))
+      (front-none (first ∷ (as_drawn other ∷ map as_drawn olds)) back _ (mended-none lost (as_drawn old) (drawn-none old), (drawn-none other, all-drawn_none olds))
+      (omega (arith, long, fits, length-map olds as_drawn))) in
       let right : is_right new.part ≡ false = ap is_right left in
       let is_half : is_left new.part ≡ true = ap is_left left in
       let erased : is_erased new ≡ false = left-erased new left in
@@ -379,7 +383,7 @@ module _ (base : Display) (row : ℕ) (below : row < base.height) (replaces : ba
       cc
   draw-wide column place old new [] (mate ∷ news) front s holds left differs are made fits is = absurd (omega (arith, fits.long))
   draw-wide column place old new (other ∷ olds) (mate ∷ news) front s holds left differs are made fits is =
-      step-wide column place old new other olds news front s holds differs left made.absolute made.letter fits.wide fits.there mate is
+      step-wide column place old new other olds news front s holds differs left made.absolute made.letter (omega (arith, fits.long)) fits.wide fits.there mate is
 
   step : (column : ℕ) (behind : Option Style) (place : Place) (n : ℕ) (old new : Cell) (olds news front : List Cell) (s : State) (t u v : Bool)
       → are_alike old new ≡ t → is_erased new ≡ u → is_left new.part ≡ v → IsCell new → ArePaired behind (new ∷ news) → ArePaired (left_style old) olds → AreCells olds
@@ -396,7 +400,7 @@ module _ (base : Display) (row : ℕ) (below : row < base.height) (replaces : ba
   step column None place zero old new olds news front s false true v alike erased left holds are pairs whole made fits is =
       step-run column place old new olds news front s holds (none-right new are.0) alike erased made.absolute pairs (omega (arith, fits.long)) fits.wide fits.there is
   step column None place zero old new olds news front s false false false alike erased left holds are pairs whole made fits is =
-      step-narrow column place old new olds news front s holds (none-right new are.0) alike erased left made.absolute made.letter fits.wide fits.there is
+      step-narrow column place old new olds news front s holds (none-right new are.0) alike erased left made.absolute made.letter (omega (arith, fits.long)) fits.wide fits.there is
   step column None place zero old new olds news front s false false true alike erased left holds are pairs whole made fits is =
       draw-wide column place old new olds news front s holds (left-of new.part left) alike are.1 made fits is
 

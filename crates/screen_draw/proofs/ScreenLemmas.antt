@@ -16,6 +16,7 @@ use Rattle.ansi_screen.specs.Print.{draws}
 use Rattle.ansi_screen.specs.After.{State, after, after_all}
 use Rattle.ansi_screen.specs.Reachable.{is_left, left_style, right_style, ArePaired, FitsPart, IsCell, AreCells}
 use Rattle.ansi_screen.proofs.PairLemmas.{none-right, left-none, right-none, right-replicate}
+use Rattle.ansi_screen.proofs.GoingLemmas.{none-blanks, none-at}
 use Rattle.ansi_screen.proofs.LawLemmas.{after_all-append}
 use Rattle.screen_draw.specs.declared.cells.Pen.{Pen}
 use Rattle.screen_draw.specs.Draw.{is_erased, is_fresh, character_calls, sequence, pen_behind, style_calls, there_calls, cell_calls, cells_calls}
@@ -130,7 +131,7 @@ module _ (base : Display) (some : 0 < base.width) (replaces : base.inserts ≡ f
       let room : q.column + 1 ≤ base.width = omega (arith, ready.inside) in
       let printed : (after_all (character_calls cell) middle).display ≡ on base (front ++ (as_printed cell ∷ replicate n (blank plain))) next =
       character-narrow base front (replicate n (blank plain)) q (ap draws ready.letter) replaces unlinked ready.there (right-replicate n 0 (blank plain) refl)
-      cell (blank plain) middle ready_at holds left right ready.style_is room refl in
+      cell (blank plain) middle ready_at holds left right ready.style_is room refl (none-at _ (replicate (suc n) (blank plain)) (none-blanks (suc n) plain)) in
       let cells : front ++ (as_printed cell ∷ replicate n (blank plain)) ≡ (front ++ as_drawn cell ∷ []) ++ replicate n (blank plain) =
       rw (drawn-printed cell is) (sym (append_assoc front (as_printed cell ∷ []) (replicate n (blank plain)))) in
       rw (other, right, is, none) (
@@ -165,7 +166,7 @@ module _ (base : Display) (some : 0 < base.width) (replaces : base.inserts ≡ f
       let right_half : Cell = plain_cell 0x20 cell.style Right in
       let printed : (after_all (character_calls cell) middle).display ≡ on base (front ++ (as_printed cell ∷ (right_half ∷ replicate n (blank plain)))) next =
       character-wide base front (replicate n (blank plain)) q (ap draws ready.letter) replaces unlinked ready.there (right-replicate n 0 (blank plain) refl)
-      cell (blank plain) (blank plain) middle ready_at holds (left-of cell.part left) ready.style_is room refl in
+      cell (blank plain) (blank plain) middle ready_at holds (left-of cell.part left) ready.style_is room refl (none-at _ (replicate (suc (suc n)) (blank plain)) (none-blanks (suc (suc n)) plain)) in
       let cells : front ++ (as_printed cell ∷ (right_half ∷ replicate n (blank plain))) ≡ (front ++ as_drawn cell ∷ []) ++ (right_half ∷ replicate n (blank plain)) =
       rw (drawn-printed cell is) (sym (append_assoc front (as_printed cell ∷ []) (right_half ∷ replicate n (blank plain)))) in
       rw (other, right, is, left) (

@@ -18,7 +18,8 @@ use Rattle.ansi_screen.proofs.LeavingTable.{leaving_by_control, leaving_by_funct
 use Rattle.ansi_screen.proofs.LeftLemmas.{rows_left-is}
 use Rattle.ansi_screen.proofs.LawLemmas.{after_all-append}
 use Rattle.ansi_screen.proofs.KeptCalls.{kept-after, kept-after_all}
-use Rattle.ansi_screen.proofs.RowLemmas.{Wrote, printed-wrote, written-anew}
+use Rattle.ansi_screen.proofs.RowLemmas.{Wrote, printed-wrote}
+use Rattle.ansi_screen.proofs.AnewLemmas.{written-anew}
 use Rattle.screen_text.specs.Lines.{rows_text}
 use Rattle.screen_text.specs.Laws.{erase_line}
 use Rattle.screen_text.specs.Shown.{given, given_all, still_text, shown_text}

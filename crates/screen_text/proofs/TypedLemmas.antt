@@ -7,13 +7,14 @@ use Rattle.std.proofs.lemmas.List.{append-nil, append_assoc, length-append, leng
 use Rattle.std.proofs.lemmas.Grind.{flat_map-append}
 use Rattle.std.proofs.Math.Nat.{suc-mul}
 use Rattle.ansi_screen.specs.declared.cell.Cell.{Cell}
-use Rattle.ansi_screen.specs.Cells.{blank, cut, within, change, going_on, moved_back}
+use Rattle.ansi_screen.specs.Cells.{blank, cell_at, cut, within, change, going_on, moved_back}
 use Rattle.ansi_screen.specs.Display.{Display}
 use Rattle.ansi_screen.specs.Edits.{rows_up, kept_by_scroll, index}
 use Rattle.ansi_screen.specs.Widths.{is_shown, columns}
-use Rattle.ansi_screen.specs.Print.{glyph, wrapped, with_room, with_glyph, put, shown, printed}
+use Rattle.ansi_screen.specs.Print.{glyph, wrapped, with_room, with_cells_of, with_glyph, put, shown, printed}
 use Rattle.ansi_screen.specs.Text.{first_rows}
 use Rattle.ansi_screen.proofs.LeavingTable.{leaving_up, leaving_by_index}
+use Rattle.ansi_screen.proofs.GoingLemmas.{none-blanks, none-append, none-behind, glyph-none, going-none}
 use Rattle.ansi_screen.proofs.PlainLemmas.{plain, at, cut-blanks}
 use Rattle.screen_text.proofs.RowTextLemmas.{spaces, ArePrinted, ArePlainCells, ArePlainRows, plain-rows_append}
 
@@ -60,12 +61,19 @@ put-glyph front run n m place long =
 pub put-room : (width height row column n m c : ℕ) (front : List Cell) → is_shown c ≡ true → columns c ≡ n → 1 ≤ n
     → length front ≡ row * width + column → column + n ≤ width
     → printed c (at width height (front ++ spaces (n + m)) row column) ≡ at width height (front ++ (glyph n c plain 0 ++ spaces m)) row (column + n)
-unfolding printed shown put wrapped with_room with_glyph
+unfolding printed shown put wrapped with_room with_glyph with_cells_of
 put-room width height row column n m c front is one some long room =
     let fits : nat_lt width (column + n) ≡ false = le-ltb width (column + n) room in
     let other : (n == 0) ≡ false = ne_eqb n 0 (λ e. omega arith) in
+    let end : ℕ = row * width + width in
+    let old : List Cell = front ++ spaces (n + m) in
+    let run : List Cell = glyph n c plain 0 in
+    let past : length front ≤ end - 1 = omega (arith, long, room, some) in
+    let stays : going_on (cell_at (end - 1) old).goes_on end (front ++ (run ++ spaces m)) ≡ front ++ (run ++ spaces m) =
+    going-none end old (front ++ (run ++ spaces m)) (none-behind (end - 1) front (spaces (n + m)) past (none-blanks (n + m) plain))
+    (none-behind (end - 1) front (run ++ spaces m) past (none-append run (spaces m) (glyph-none n c plain 0 _ refl) (none-blanks m plain))) in
     rw (is, one, other, fits, fits)
-    (ap (λ cells. at width height cells row (column + n)) (put-glyph front (glyph n c plain 0) n m (row * width + column) long))
+    (ap (λ cells. at width height cells row (column + n)) (ap (going_on (cell_at (end - 1) old).goes_on end) (put-glyph front run n m (row * width + column) long) ∙ stays))
 
 -- a character that has none is printed as on the next row
 pub put-wrapped : (width height row column row_then n c : ℕ) (cells cells_then : List Cell) → is_shown c ≡ true → columns c ≡ n → 1 ≤ n

@@ -5,9 +5,10 @@ ghost use Rattle.ansi_screen.specs.Display.{here, row_start, row_end};
 ghost use Rattle.ansi_screen.specs.Moves.{settled};
 ghost use Rattle.ansi_screen.specs.History.{with_left};
 ghost use Rattle.ansi_screen.specs.Text.{first_rows, printed_rows};
-ghost use Rattle.ansi_screen.specs.Edits.{with_cells, space, erased_cells, row_going_on, row_above_ended, erases_all, erases_from_row, erases_first, erased_part, erased_display, erased_line, erased_characters, deleted_characters, inserted_characters, rows_up, rows_down, swapped, scrolled_up, scrolled_down, inserted_lines, deleted_lines, index, reverse_index};
+ghost use Rattle.ansi_screen.specs.Edits.{with_cells, space, erased_cells, row_goes_on, row_going_on, row_above_ended, erases_all, erases_from_row, erases_first, erased_part, erased_display, erased_line, erased_characters, deleted_characters, inserted_characters, rows_up, rows_down, swapped, scrolled_up, scrolled_down, inserted_lines, deleted_lines, index, reverse_index};
 
 use super::Display;
+use crate::runs::goes_on;
 use crate::text::LeftOut;
 
 /// The number of ED that erases all of a screen, wherever the cursor is.
@@ -227,6 +228,13 @@ impl Display {
         let column = self.cursor.column;
         let end = self.cells.width().min(column + usize::from(count));
         self.erase_columns(column, end);
+    }
+
+    /// Whether the cursor's row goes on in the next.
+    pub(super) fn goes_on(&self) -> bool
+        ensures { result ≡ row_goes_on self.now }
+    {
+        goes_on(self.row(self.cursor.row))
     }
 
     /// Says whether the cursor's row goes on in the next.

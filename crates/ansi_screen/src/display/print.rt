@@ -3,8 +3,9 @@ ghost use Rattle.std.specs.Prelude.{◌≡◌, true, ◌+◌, ◌*◌, ◌<◌, 
 ghost use Rattle.ansi_screen.specs.Widths.{is_shown, columns};
 ghost use Rattle.std.specs.Fn.{iterate};
 ghost use Rattle.anstyle_parse.specs.Stream.Items.{EachIs};
-ghost use Rattle.ansi_screen.specs.Print.{drawn, wrapped, with_room, with_glyph, put, marked, shown, printed, printed_again};
-ghost use Rattle.ansi_screen.specs.Runs.{HasRoom, is_printed_ascii, printed_all};
+ghost use Rattle.ansi_screen.specs.Print.{drawn, wrapped, with_room, with_cells_of, with_glyph, put, marked, shown, printed, printed_again};
+ghost use Rattle.ansi_screen.specs.Edits.{row_goes_on, row_going_on};
+ghost use Rattle.ansi_screen.specs.Runs.{HasRoom, is_printed_ascii, with_run, printed_all};
 ghost use Rattle.ansi_screen.specs.After.{repeated};
 
 use super::Display;
@@ -40,7 +41,7 @@ impl Display {
         }
     }
 
-    /// A character that is shown. Mostly the row has room for it, and no cell moves.
+    /// A character that is shown. Mostly it is far from the row's end, and no cell moves.
     #[tactic(auto, unfolding(crate::specs::Print::shown))]
     fn show(&mut self, c: char)
         ensures { self.new ≡ shown c self.old }
@@ -48,8 +49,8 @@ impl Display {
         let columns = columns(c);
         if columns == 0 {
             self.mark(c);
-        } else if self.cursor.column + usize::from(columns) <= self.cells.width() && !self.inserts {
-            self.put_glyph(columns, c);
+        } else if self.cursor.column + usize::from(columns) + 1 < self.cells.width() && !self.inserts {
+            self.put_cells(columns, c);
         } else {
             self.wrap(columns);
             self.put_character(columns, c);
@@ -190,13 +191,45 @@ impl Display {
         }
     }
 
-    /// The cells of the character, and the cursor past them.
-    #[tactic(auto, unfolding(crate::specs::Print::with_glyph))]
+    /// The character, after which its row goes on as before. Mostly it is far from the row's end.
     fn put_glyph(&mut self, columns: u16, c: char)
         requires some { 1 ≤ columns }
         requires few { columns ≤ 2 }
         requires fits { self.old.cursor.column + columns ≤ self.old.width }
         ensures { self.new ≡ with_glyph columns c self.old }
+    {
+        if self.cursor.column + usize::from(columns) + 1 < self.cells.width() {
+            self.put_cells(columns, c);
+        } else {
+            self.put_at_end(columns, c);
+        }
+    }
+
+    /// The same where the row ends. It is out of line, so that other characters do not pay for it.
+    #[inline(never)]
+    fn put_at_end(&mut self, columns: u16, c: char)
+        requires some { 1 ≤ columns }
+        requires few { columns ≤ 2 }
+        requires fits { self.old.cursor.column + columns ≤ self.old.width }
+        ensures { self.new ≡ with_glyph columns c self.old }
+    {
+        // (for the proof: the cells fill the rows)
+        let _ = self.cells.width();
+        let was_going_on = self.goes_on();
+        self.put_cells(columns, c);
+        if was_going_on {
+            self.set_goes_on(true);
+        }
+    }
+
+    /// The cells of the character, and the cursor past them.
+    #[inline(always)]
+    #[tactic(auto, unfolding(crate::specs::Print::with_cells_of))]
+    fn put_cells(&mut self, columns: u16, c: char)
+        requires some { 1 ≤ columns }
+        requires few { columns ≤ 2 }
+        requires fits { self.old.cursor.column + columns ≤ self.old.width }
+        ensures { self.new ≡ with_cells_of columns c self.old }
     {
         let (row, column) = (self.cursor.row, self.cursor.column);
         let style = self.cursor.style;
@@ -230,6 +263,36 @@ impl Display {
         requires ascii { EachIs is_printed_ascii run.now }
         requires room { HasRoom (length run.now) self.old }
         ensures { self.new ≡ printed_all run.now self.old }
+    {
+        if self.cursor.column + run.len() + 1 < self.cells.width() {
+            self.put_cells_of_run(run);
+        } else {
+            self.put_run_at_end(run);
+        }
+    }
+
+    /// The same where the row ends, out of line too.
+    #[inline(never)]
+    fn put_run_at_end(&mut self, run: &[u8])
+        requires some { 0 < length run.now }
+        requires fits { self.old.cursor.column + length run.now ≤ self.old.width }
+        ensures { self.new ≡ row_going_on (row_goes_on self.old) (with_run run.now self.old) }
+    {
+        // (for the proof: the cells fill the rows)
+        let _ = self.cells.width();
+        let was_going_on = self.goes_on();
+        self.put_cells_of_run(run);
+        if was_going_on {
+            self.set_goes_on(true);
+        }
+    }
+
+    /// Puts its cells, and the cursor after them.
+    #[inline(always)]
+    fn put_cells_of_run(&mut self, run: &[u8])
+        requires some { 0 < length run.now }
+        requires fits { self.old.cursor.column + length run.now ≤ self.old.width }
+        ensures { self.new ≡ with_run run.now self.old }
     {
         let (row, column) = (self.cursor.row, self.cursor.column);
         let style = self.cursor.style;

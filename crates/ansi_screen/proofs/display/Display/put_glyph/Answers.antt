@@ -1,15 +1,17 @@
--- The columns of the character are noted.
-use Rattle.std.proofs.Common.{◌+◌, ◌≤◌, sym, subst}
-use Rattle.ansi_screen.specs.Display.{Display}
-use Rattle.ansi_screen.proofs.DamageLemmas.{puts-row, writes-glyph}
+-- Far from the end of the row the cells of the character are all.
+use Rattle.std.proofs.Common.{◌+◌, ◌<◌, ◌≤◌, length, ◌∙◌, subst, arith}
+use Rattle.ansi_screen.specs.Display.{Display, row_end}
+use Rattle.ansi_screen.proofs.InsertLemmas.{row-inside}
+use Rattle.ansi_screen.proofs.PrintedLemmas.{glyph-far}
 use Rattle.ansi_screen.proofs.display.Display.put_glyph.Goals as goal
 
-pub invariant_of-self : goal.invariant_of-self
-invariant_of-self c =
-    let fits : c.self.inside.cursor.column + c.args.columns ≤ c.self.inside.cells.width =
-    subst (λ (d : Display). d.cursor.column + c.args.columns ≤ d.width) (sym c.self.view_is) c.requires.fits in
-    let was = c.self.invariant.2 in
-    rw c.from.ensures
-    (puts-row c.self.inside.damage c.note.new.self c.self.inside.cells c.put.new.self c.self.inside.hidden _ _ c.self.view_is c.self.invariant _ c.put.ensures _ _ _ _ fits
-    (rw c.from.ensures at c.note.ensures)
-    (writes-glyph _ _ _ _ _ c.width.ensures.begin c.width.ensures.filled was.sized.cursor_row was.long _ _ _ _ _ c.requires.some c.requires.few fits))
+pub returns-then-self-from : goal.returns-then-self-from
+returns-then-self-from c =
+    let d = c.args.self.now in
+    let grid = c.self.inside.cells in
+    let far : c.self.inside.cursor.column + c.args.columns + 1 < grid.width = omega (arith, c.if-self-from.true, c.from.ensures, c.width.ensures.width) in
+    let room : d.cursor.column + c.args.columns + 1 < d.width = subst (λ (e : Display). e.cursor.column + c.args.columns + 1 < e.width) c.self.view_is far in
+    let inside : row_end d ≤ length d.cells =
+    subst (λ (e : Display). row_end e ≤ length e.cells) c.self.view_is
+    (omega (arith, c.width.ensures.filled, row-inside c.self.inside.cursor.row grid.width grid.height c.self.invariant.2.sized.cursor_row)) in
+    c.put_cells.ensures ∙ glyph-far c.args.columns c.args.c d c.requires.some c.requires.few room inside

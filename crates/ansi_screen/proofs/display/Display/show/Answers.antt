@@ -1,10 +1,22 @@
--- A character for which the row has room, out of insert mode.
-use Rattle.std.proofs.Common.{◌+◌, ◌≤◌, arith}
-use Rattle.ansi_screen.proofs.PrintedLemmas.{shown-there}
+-- A character far from the row's end, out of insert mode.
+use Rattle.std.proofs.Common.{◌≡◌, ◌+◌, ◌<◌, ◌≤◌, length, ◌∙◌, subst, arith}
+use Rattle.ansi_screen.specs.Display.{Display, row_end}
+use Rattle.ansi_screen.specs.Print.{with_glyph}
+use Rattle.ansi_screen.proofs.InsertLemmas.{row-inside}
+use Rattle.ansi_screen.proofs.PrintedLemmas.{shown-there, glyph-far}
 use Rattle.ansi_screen.proofs.display.Display.show.Goals as goal
 
 pub returns-then-not-self : goal.returns-then-not-self
 returns-then-not-self c =
-    let fits : c.self.inside.cursor.column + c.from.result ≤ c.self.inside.cells.width = omega (arith, c.if-self-from.true, c.width.ensures.width) in
-    shown-there c.columns-columns.result c.from.result c.args.c _ c.args.self.now c.put_glyph.new.self c.self.view_is c.columns-columns.ensures.columns
-    c.from.ensures c.if-columns-eq0.false fits c.if-not-self.true c.put_glyph.ensures
+    let d = c.args.self.now in
+    let n = c.columns-columns.result in
+    let grid = c.self.inside.cells in
+    let near : c.self.inside.cursor.column + c.from.result + 1 < grid.width = omega (arith, c.if-self-from.true, c.width.ensures.width) in
+    let fits : c.self.inside.cursor.column + c.from.result ≤ grid.width = omega (arith, near) in
+    let far : d.cursor.column + n + 1 < d.width = subst (λ (e : Display). e.cursor.column + n + 1 < e.width) c.self.view_is (omega (arith, near, c.from.ensures)) in
+    let inside : row_end d ≤ length d.cells =
+    subst (λ (e : Display). row_end e ≤ length e.cells) c.self.view_is
+    (omega (arith, c.width.ensures.filled, row-inside c.self.inside.cursor.row grid.width grid.height c.self.invariant.2.sized.cursor_row)) in
+    let other : n ≡ 0 → ⊥ = c.if-columns-eq0.false in
+    let put : c.put_cells.new.self ≡ with_glyph n c.args.c d = c.put_cells.ensures ∙ glyph-far n c.args.c d (omega arith) c.columns-columns.ensures.few far inside in
+    shown-there n c.from.result c.args.c _ d c.put_cells.new.self c.self.view_is c.columns-columns.ensures.columns c.from.ensures c.if-columns-eq0.false fits c.if-not-self.true put

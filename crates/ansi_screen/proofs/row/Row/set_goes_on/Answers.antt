@@ -2,7 +2,8 @@
 use Rattle.std.proofs.Common.{◌≡◌, ◌-◌, ◌<◌, refl, List, length, ap, sym, ◌∙◌, arith}
 use Rattle.ansi_screen.specs.declared.cell.Cell.{Cell}
 use Rattle.ansi_screen.specs.Text.{goes_on}
-use Rattle.ansi_screen.proofs.BlankLemmas.{Kept, kept-slice, kept-row, kept-whole, kept-going, going-same, not-other}
+use Rattle.ansi_screen.proofs.BlankLemmas.{Kept, kept-slice, kept-row, kept-whole, kept-going, not-other}
+use Rattle.ansi_screen.proofs.GoingLemmas.{going-same}
 use Rattle.ansi_screen.proofs.row.Row.set_goes_on.Goals as goal
 
 pub invariant_of-self : goal.invariant_of-self

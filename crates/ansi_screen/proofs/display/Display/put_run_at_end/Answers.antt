@@ -1,0 +1,26 @@
+-- The row says again what it said; where it did not go on, it does not.
+use Rattle.std.proofs.Common.{◌≡◌, ◌≤◌, Bool, true, false, length, ap, sym, ◌∙◌, subst, arith}
+use Rattle.ansi_screen.specs.Display.{Display, row_end}
+use Rattle.ansi_screen.specs.Edits.{row_goes_on, row_going_on}
+use Rattle.ansi_screen.specs.Runs.{with_run}
+use Rattle.ansi_screen.proofs.InsertLemmas.{row-inside}
+use Rattle.ansi_screen.proofs.PrintedLemmas.{run-ends}
+use Rattle.ansi_screen.proofs.display.Display.put_run_at_end.Goals as goal
+
+pub returns-then-was_going_on : goal.returns-then-was_going_on
+returns-then-was_going_on c =
+    let says : true ≡ row_goes_on c.args.self.now = sym c.if-was_going_on.true ∙ c.goes_on-was_going_on.ensures in
+    c.set_goes_on.ensures
+    ∙ (ap (λ (e : Display). row_going_on true e) c.put_cells_of_run.ensures
+    ∙ ap (λ (t : Bool). row_going_on t (with_run c.args.run.now c.args.self.now)) says)
+
+pub returns-else-was_going_on : goal.returns-else-was_going_on
+returns-else-was_going_on c =
+    let d = c.args.self.now in
+    let grid = c.self.inside.cells in
+    let was = c.self.invariant.2 in
+    let inside : row_end d ≤ length d.cells =
+    subst (λ (e : Display). row_end e ≤ length e.cells) c.self.view_is
+    (omega (arith, c.width.ensures.filled, row-inside c.self.inside.cursor.row grid.width grid.height was.sized.cursor_row)) in
+    let ends : row_goes_on d ≡ false = sym c.goes_on-was_going_on.ensures ∙ c.if-was_going_on.false in
+    c.put_cells_of_run.ensures ∙ run-ends c.args.run.now d (omega (arith, inside, c.requires.fits)) ends

@@ -1,5 +1,5 @@
 -- What is written has characters that XML may have, in UTF-8.
-use Rattle.std.proofs.Common.{◌≡◌, ◌<◌, ◌≤◌, ℕ, Bool, true, false, ◌||◌, eqb, List, [], ◌∷◌, ◌++◌, codes, refl, sym, ap, ap₂, ◌∙◌, subst, append_assoc, append-nil, ⊎_elim, arith}
+use Rattle.std.proofs.Common.{◌≡◌, ◌<◌, ◌≤◌, ℕ, Bool, true, false, eqb, List, [], ◌∷◌, ◌++◌, codes, refl, sym, ap₂, ◌∙◌, subst, append-nil, ⊎_elim, arith}
 use Rattle.std.specs.Prelude.{nat_le, nat_lt, ◌&&◌, encode_utf8, if◌then◌else◌}
 use Rattle.std.specs.List.{flat_map, AllByRecursion, list_all}
 use Rattle.std.specs.Str.{chars}
@@ -15,7 +15,7 @@ use Rattle.ansi_screen.specs.declared.cell.Cell.{Cell}
 use Rattle.ansi_screen.specs.declared.cell.Marks.{Marks}
 use Rattle.ansi_screen.specs.declared.cell.Marks.TheVariants.{Unmarked, One, Two}
 use Rattle.ansi_screen.specs.Cells.{is_right}
-use Rattle.screen_svg.specs.Characters.{is_allowed, replaced, character_text, text_of, marks_text, cell_text, IsXmlText}
+use Rattle.screen_svg.specs.Characters.{is_allowed, character_text, text_of, marks_text, cell_text, IsXmlText}
 use Rattle.screen_svg.specs.Runs.{Run, run_cells, run_text}
 
 abbrev AreAllowed : List ℕ → Type 0

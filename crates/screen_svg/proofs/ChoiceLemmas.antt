@@ -1,5 +1,5 @@
 -- What is written where something holds, and where it does not.
-use Rattle.std.proofs.Common.{◌≡◌, Bool, true, false, List, ℕ, [], subst, sym, ap}
+use Rattle.std.proofs.Common.{◌≡◌, Bool, true, false, sym, ap}
 use Rattle.std.specs.Prelude.{if◌then◌else◌}
 
 pub chosen : {A : Type 0} (one other : A) (wanted : Bool) → wanted ≡ true → one ≡ (if wanted then one else other)

@@ -1,8 +1,7 @@
 -- A picture stands in the grammar.
-use Rattle.std.proofs.Common.{◌≡◌, ◌⊎◌, ℕ, zero, suc, ◌+◌, ◌*◌, Bool, true, false, ◌&&◌, List, [], ◌∷◌, ◌++◌, codes, refl, sym, ap, ◌∙◌, subst, append_assoc, append-nil, inl, inr}
-use Rattle.std.specs.Prelude.{not, if◌then◌else◌, decimal, IsTrue}
-use Rattle.std.specs.List.{flat_map, AllByRecursion}
-use Rattle.anstyle_parse.specs.Stream.Call.{Call}
+use Rattle.std.proofs.Common.{◌≡◌, ℕ, zero, suc, ◌+◌, ◌*◌, Bool, true, false, ◌&&◌, List, [], ◌∷◌, ◌++◌, codes, refl, sym, ap, ◌∙◌, subst, append_assoc, append-nil, inl, inr}
+use Rattle.std.specs.Prelude.{if◌then◌else◌}
+use Rattle.std.specs.List.{flat_map}
 use Rattle.ansi_style.specs.declared.style.Style.{Style}
 use Rattle.ansi_html.specs.declared.scheme.Scheme.{Scheme}
 use Rattle.ansi_html.specs.Css.{declared, css, colors_css, others_css, is_chosen, behind_of, has_ground, ground_css}
@@ -11,7 +10,6 @@ use Rattle.ansi_html.specs.Html.{is_plain}
 use Rattle.ansi_html.specs.Links.{IsLink, is_none, is_linkable}
 use Rattle.ansi_html.proofs.ColorLemmas.{AreColors-css}
 use Rattle.ansi_html.proofs.DeclarationLemmas.{AreDeclarations-others}
-use Rattle.ansi_screen.specs.declared.cell.Cell.{Cell}
 use Rattle.ansi_screen.specs.Display.{Display, row_cells}
 use Rattle.screen_html.specs.Links.{Kept, Table, link_at}
 use Rattle.screen_svg.specs.declared.drawing.Drawing.{Drawing}
@@ -24,7 +22,7 @@ use Rattle.screen_svg.proofs.CharacterLemmas.{IsXmlText-safe, IsXmlText-text, Is
 use Rattle.screen_svg.proofs.SafeLemmas.{AreSafe-view}
 
 -- what holds of either holds of the one that is chosen
-choose : {A : Type 0} (P : A → Type 0) (wanted : Bool) (one other : A) → P one → P other → P (if wanted then one else other)
+pub choose : {A : Type 0} (P : A → Type 0) (wanted : Bool) (one other : A) → P one → P other → P (if wanted then one else other)
 choose P true one other x y = x
 choose P false one other x y = y
 

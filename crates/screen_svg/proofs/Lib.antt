@@ -9,3 +9,4 @@ pub mod ReadingLemmas
 pub mod WellFormedLemmas
 pub mod PictureLemmas
 pub mod ChoiceLemmas
+pub mod BoundLemmas

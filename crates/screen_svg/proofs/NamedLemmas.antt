@@ -1,12 +1,12 @@
 -- The names in a picture are names, so that a reader reads it back.
-use Rattle.std.proofs.Common.{◌≡◌, ℕ, ◌*◌, Bool, true, false, List, [], ◌∷◌, ◌++◌, codes, decimal, map, refl, sym, ap, ◌∙◌, subst}
+use Rattle.std.proofs.Common.{◌≡◌, ℕ, Bool, true, false, List, [], ◌∷◌, ◌++◌, codes, decimal, map, refl, sym, subst}
 use Rattle.std.specs.List.{AllByRecursion}
 use Rattle.ansi_html.specs.declared.scheme.Scheme.{Scheme}
 use Rattle.ansi_html.specs.Links.{IsLink}
 use Rattle.ansi_screen.specs.Display.{Display}
 use Rattle.screen_html.specs.Links.{Table, link_at}
 use Rattle.screen_svg.specs.declared.drawing.Drawing.{Drawing}
-use Rattle.screen_svg.specs.Xml.{Attribute, attribute, Event, start, byte, end, xml, read}
+use Rattle.screen_svg.specs.Xml.{Attribute, attribute, Event, byte, end, read}
 use Rattle.screen_svg.specs.Picture.{element, box, class, rectangle, rules, circle, dots, bar_attributes, bar, name_place, name, window_events, picture, svg, page_rules, shape_rules}
 use Rattle.screen_svg.specs.Characters.{text_of}
 use Rattle.screen_svg.specs.Grammar.{IsTextStyle, plain, styled, text_at, AreShapes, no_more, filled, text, link, IsTitle, untitled, titled, IsCursor, unseen, frame, IsPicture}

@@ -1,5 +1,5 @@
 -- The laws of a picture with the links of a stream.
-use Rattle.std.proofs.Common.{◌≡◌, ℕ, List, sym, ap, ◌∙◌, subst}
+use Rattle.std.proofs.Common.{◌≡◌, ◌≤◌, ◌+◌, ◌*◌, ℕ, List, length, sym, ap, ◌∙◌, subst}
 use Rattle.anstyle_parse.specs.Stream.Call.{Call}
 use Rattle.ansi_html.specs.Links.{IsLink}
 use Rattle.ansi_screen.specs.After.{State, after_all}
@@ -9,11 +9,12 @@ use Rattle.screen_html.specs.Page.{all_links}
 use Rattle.screen_html.proofs.HandedLemmas.{sound-link_at, kept-none}
 use Rattle.screen_html.proofs.WholeLemmas.{kept-all}
 use Rattle.screen_svg.specs.declared.drawing.Drawing.{Drawing}
-use Rattle.screen_svg.specs.Characters.{IsXmlText}
-use Rattle.screen_svg.specs.Xml.{Event, read}
+use Rattle.screen_svg.specs.Characters.{text_of, IsXmlText}
+use Rattle.screen_svg.specs.Xml.{read}
 use Rattle.screen_svg.specs.Picture.{picture, svg}
 use Rattle.screen_svg.specs.Reading.{texts, picture_texts}
 use Rattle.screen_svg.specs.Grammar.{IsPicture}
+use Rattle.screen_svg.proofs.BoundLemmas.{length-svg}
 use Rattle.screen_svg.proofs.GrammarLemmas.{IsPicture-of}
 use Rattle.screen_svg.proofs.NamedLemmas.{read-svg}
 use Rattle.screen_svg.proofs.ReadingLemmas.{texts-picture}
@@ -45,3 +46,8 @@ module _ (drawing : Drawing) (title font : List ℕ) (s : State) (calls : List C
   pub characters-all : IsXmlText (svg drawing title font (all_links calls s no_links) (after_all calls s).display)
   unfolding links d
   characters-all = IsXml-picture drawing.scheme (picture drawing title font links d) (IsPicture-of drawing title font links d are_links)
+
+  pub length-all : length (svg drawing title font (all_links calls s no_links) (after_all calls s).display)
+      ≤ 7125 * ((after_all calls s).display.height * (after_all calls s).display.width) + (12 * length (text_of title) + (6 * length (text_of font) + 1760))
+  unfolding links d
+  length-all = length-svg drawing title font links d (λ number. sound-link_at number links.places (kept-all calls s no_links kept-none))

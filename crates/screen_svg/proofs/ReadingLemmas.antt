@@ -1,8 +1,7 @@
 -- The texts of a picture are those of the screen's runs.
-use Rattle.std.proofs.Common.{◌≡◌, ℕ, zero, suc, Bool, true, false, ◌&&◌, List, [], ◌∷◌, ◌++◌, codes, map, refl, sym, ap, ap₂, ◌∙◌, subst, append_assoc, append-nil}
+use Rattle.std.proofs.Common.{◌≡◌, ℕ, zero, suc, Bool, true, false, ◌&&◌, List, [], ◌∷◌, ◌++◌, codes, map, refl, sym, ap, ◌∙◌, append_assoc, append-nil}
 use Rattle.std.specs.Prelude.{if◌then◌else◌}
 use Rattle.std.specs.List.{flat_map}
-use Rattle.ansi_style.specs.declared.style.Style.{Style}
 use Rattle.ansi_html.specs.declared.scheme.Scheme.{Scheme}
 use Rattle.ansi_html.specs.Css.{has_ground, ground_css}
 use Rattle.ansi_html.specs.Links.{is_none}
@@ -15,7 +14,7 @@ use Rattle.screen_svg.specs.declared.drawing.Drawing.{Drawing}
 use Rattle.screen_svg.specs.Characters.{text_of}
 use Rattle.screen_svg.specs.Xml.{Attribute, attribute, Event, start, byte, end}
 use Rattle.screen_svg.specs.Runs.{Run, run_columns, run_text, runs_of}
-use Rattle.screen_svg.specs.Picture.{element, rectangle, class, box, run_ground, text_place, text_style, text_element, linked, is_drawn, text as text_in, run_events, row_events, rows_events, cursor_column, cursor_events, page_rules, shape_rules, rules, title_element, dots, bar_attributes, bar, name_place, name, window_events, picture_attributes, page, head, picture}
+use Rattle.screen_svg.specs.Picture.{element, rectangle, class, box, run_ground, text_place, text_style, text_element, linked, is_drawn, text as text_in, run_events, row_events, rows_events, cursor_column, cursor_events, page_rules, shape_rules, rules, title_element, dots, bar_attributes, bar, name_place, name, window_events, page, head, picture}
 use Rattle.screen_svg.specs.Reading.{Text, text, outside, inside, texts_from, texts, run_texts, row_texts, rows_texts, window_texts, picture_texts}
 
 -- these events show these texts, whatever follows, and leave a reader in no link

@@ -1,10 +1,10 @@
 -- The runs of a row, from a run on.
-use Rattle.std.proofs.Common.{◌≡◌, ◌≤◌, ℕ, zero, suc, ◌+◌, Bool, true, false, List, [], ◌∷◌, ◌++◌, length, take, drop, refl, sym, ap, ap₂, ◌∙◌, subst, arith, append_assoc, take-append-drop}
+use Rattle.std.proofs.Common.{◌≡◌, ◌≤◌, ℕ, zero, suc, ◌+◌, Bool, true, false, List, [], ◌∷◌, ◌++◌, length, take, drop, refl, sym, ap, ap₂, ◌∙◌, subst, arith, take-append-drop}
 use Rattle.std.specs.Prelude.{if◌then◌else◌}
 use Rattle.std.specs.List.{flat_map, AllByRecursion}
 use Rattle.std.proofs.lemmas.List.{length-take}
 use Rattle.ansi_screen.specs.declared.cell.Cell.{Cell}
-use Rattle.screen_svg.specs.Runs.{Run, goes_with, count_with, run_of, run_at, run_cells, runs_after, runs_of}
+use Rattle.screen_svg.specs.Runs.{Run, goes_with, count_with, run_of, run_cells, runs_after, runs_of}
 use Rattle.screen_svg.specs.Xml.{Event}
 use Rattle.screen_svg.specs.Reading.{StandFrom, IsRun}
 

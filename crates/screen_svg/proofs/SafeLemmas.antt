@@ -1,5 +1,5 @@
 -- Values that are written as they are.
-use Rattle.std.proofs.Common.{◌≡◌, ℕ, ◌+◌, ◌*◌, Bool, List, ◌++◌, codes, decimal, refl}
+use Rattle.std.proofs.Common.{ℕ, ◌+◌, ◌*◌, Bool, ◌++◌, codes, decimal, refl}
 use Rattle.ansi_html.proofs.ColorLemmas.{choose}
 use Rattle.ansi_html.proofs.DeclarationLemmas.{is_safe, AreSafe, AreSafe-append}
 use Rattle.ansi_html.proofs.LineTagLemmas.{AreSafe-decimal}

@@ -1,13 +1,12 @@
 -- A reader of XML reads exactly the events that were written.
-use Rattle.std.proofs.Common.{◌≡◌, ◌⊎◌, ℕ, Bool, true, false, ◌&&◌, ◌||◌, eqb, List, [], ◌∷◌, ◌++◌, codes, map, refl, sym, ap, ap₂, ◌∙◌, subst, append_assoc, append-nil, ⊎_elim}
+use Rattle.std.proofs.Common.{◌≡◌, ℕ, Bool, true, false, ◌&&◌, eqb, List, [], ◌∷◌, ◌++◌, codes, refl, sym, ap, ap₂, ◌∙◌, subst, append_assoc, append-nil, ⊎_elim}
 use Rattle.std.specs.Prelude.{⊤, not, if◌then◌else◌}
 use Rattle.std.specs.List.{list_all, flat_map, AllByRecursion}
 use Rattle.std.proofs.lemmas.Bool.{and_parts, or_cases, or_parts, eqb-true}
-use Rattle.std.proofs.lemmas.Grind.{flat_map-append}
 use Rattle.ansi_html.specs.Grammar.{is_special}
 use Rattle.ansi_html.specs.Html.{escaped, escaped_text}
 use Rattle.ansi_html.proofs.HtmlLemmas.{escaped-clear, false-from_not}
-use Rattle.screen_svg.specs.Xml.{Attribute, attribute, Event, start, byte, end, attribute_xml, event_xml, xml, in_text, in_start, in_end, in_tag, in_value, in_value_reference, in_reference, read_from, read}
+use Rattle.screen_svg.specs.Xml.{Attribute, attribute, Event, start, byte, end, attribute_xml, event_xml, xml, in_text, in_start, in_end, in_tag, in_value, in_value_reference, read_from, read}
 
 -- a byte of a name: none that ends one in a tag
 unfoldable pub is_name_byte : ℕ → Bool

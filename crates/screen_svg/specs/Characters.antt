@@ -1,7 +1,7 @@
 -- Which characters XML may have.
 --
 -- Source: Extensible Markup Language (XML) 1.0, fifth edition, 2.2, production 2.
-use Rattle.std.specs.Prelude.{◌≡◌, ℕ, Bool, true, ◌||◌, ◌==◌, List, [], ◌∷◌, ◌++◌, encode_utf8, if◌then◌else◌}
+use Rattle.std.specs.Prelude.{◌≡◌, ℕ, Bool, true, ◌||◌, ◌==◌, List, [], ◌++◌, encode_utf8, if◌then◌else◌}
 use Rattle.std.specs.List.{flat_map, AllByRecursion}
 use Rattle.std.specs.Str.{chars}
 use Rattle.anstyle_parse.specs.Stream.Bytes.{is_within}

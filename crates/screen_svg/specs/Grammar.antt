@@ -1,6 +1,6 @@
 -- The grammar of a picture, as a reader of XML meets it: which elements there are, which attributes they have, and what
 -- stands in them. Nothing else is in it, so no script, no style but those, and no reference but a link.
-use Rattle.std.specs.Prelude.{◌≡◌, ℕ, ◌*◌, ◌+◌, Bool, List, [], ◌∷◌, ◌++◌, codes, decimal, IsTrue}
+use Rattle.std.specs.Prelude.{◌≡◌, ℕ, Bool, List, [], ◌∷◌, ◌++◌, codes, decimal, IsTrue}
 use Rattle.ansi_html.specs.declared.contrast.Rgb.{Rgb}
 use Rattle.ansi_html.specs.declared.scheme.Scheme.{Scheme}
 use Rattle.ansi_html.specs.Css.{declared}

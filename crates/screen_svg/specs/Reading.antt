@@ -1,6 +1,6 @@
 -- The texts of a picture, as a reader of its XML finds them: each with its attributes, which say where it stands, over
 -- how many columns, and in which style; and with the link in which it stands.
-use Rattle.std.specs.Prelude.{◌≡◌, ⊤, ℕ, zero, suc, ◌+◌, Bool, true, List, [], ◌∷◌, ◌++◌, codes, decimal, if◌then◌else◌}
+use Rattle.std.specs.Prelude.{◌≡◌, ⊤, ℕ, zero, suc, ◌+◌, Bool, true, List, [], ◌∷◌, ◌++◌, codes, if◌then◌else◌}
 use Rattle.std.specs.List.{flat_map, AllByRecursion}
 use Rattle.std.specs.Str.{bytes_eq}
 use Rattle.ansi_html.specs.declared.scheme.Scheme.{Scheme}
@@ -9,7 +9,7 @@ use Rattle.ansi_screen.specs.Display.{Display, row_cells}
 use Rattle.screen_html.specs.Links.{Kept, Table, link_at}
 use Rattle.screen_svg.specs.declared.drawing.Drawing.{Drawing}
 use Rattle.screen_svg.specs.Characters.{text_of}
-use Rattle.screen_svg.specs.Xml.{Attribute, attribute, Event, start, byte, end}
+use Rattle.screen_svg.specs.Xml.{Attribute, Event, start, byte, end}
 use Rattle.screen_svg.specs.Runs.{Run, run_text, run_columns, goes_with, runs_of}
 use Rattle.screen_svg.specs.Picture.{text_place, text_style, is_drawn, name_place}
 

@@ -1,5 +1,5 @@
 //! Laws of pictures. Each is the contract of a function that does nothing.
-ghost use Rattle.std.specs.Prelude.{◌≡◌, ℕ, List};
+ghost use Rattle.std.specs.Prelude.{◌≡◌, ◌≤◌, ◌+◌, ◌*◌, ℕ, List, length};
 ghost use Rattle.std.specs.List.{flat_map, AllByRecursion};
 ghost use Rattle.anstyle_parse.specs.Stream.Call.{Call};
 ghost use Rattle.ansi_screen.specs.After.{State, after_all};
@@ -7,7 +7,7 @@ ghost use Rattle.ansi_screen.specs.declared.cell.Cell.{Cell};
 ghost use Rattle.screen_html.specs.Links.{no_links};
 ghost use Rattle.screen_html.specs.Page.{all_links};
 ghost use Rattle.screen_svg.specs.declared.drawing.Drawing.{Drawing as ADrawing};
-ghost use Rattle.screen_svg.specs.Characters.{IsXmlText};
+ghost use Rattle.screen_svg.specs.Characters.{text_of, IsXmlText};
 ghost use Rattle.screen_svg.specs.Xml.{read};
 ghost use Rattle.screen_svg.specs.Runs.{run_cells, runs_of};
 ghost use Rattle.screen_svg.specs.Picture.{picture, svg};
@@ -18,7 +18,8 @@ ghost use Rattle.screen_svg.specs.Grammar.{IsPicture};
 /// the tags and the text that were meant (`read_back`), so that no markup comes in; these stand in the grammar of a fixed
 /// vocabulary, and each link begins with https://, http:// or mailto: (`grammar`). The texts by their places are those of
 /// the runs of its rows, each with the declarations of its style and with its link (`texts`). All of it has characters
-/// that XML may have, in UTF-8 (`characters`).
+/// that XML may have, in UTF-8 (`characters`). It has at most 7,125 bytes for each cell, 12 for each of its title as it is
+/// written, 6 for each of its fonts, and 1,760 more (`bound`).
 pub fn pictures()
     ensures read_back { (drawing : ADrawing) (title font : List ℕ) (s : State) (calls : List Call)
         → read (svg drawing title font (all_links calls s no_links) (after_all calls s).display)
@@ -29,6 +30,10 @@ pub fn pictures()
     ensures texts { (drawing : ADrawing) (title font : List ℕ) (s : State) (calls : List Call)
         → texts (read (svg drawing title font (all_links calls s no_links) (after_all calls s).display))
         ≡ picture_texts drawing title (all_links calls s no_links) (after_all calls s).display }
+    ensures bound { (drawing : ADrawing) (title font : List ℕ) (s : State) (calls : List Call)
+        → length (svg drawing title font (all_links calls s no_links) (after_all calls s).display)
+        ≤ 7125 * ((after_all calls s).display.height * (after_all calls s).display.width)
+        + (12 * length (text_of title) + (6 * length (text_of font) + 1760)) }
     ensures characters { (drawing : ADrawing) (title font : List ℕ) (s : State) (calls : List Call)
         → IsXmlText (svg drawing title font (all_links calls s no_links) (after_all calls s).display) }
 {}

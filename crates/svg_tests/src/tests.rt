@@ -1,7 +1,5 @@
 //! Pictures of small screens, written out by hand after the definitions of SVG and of XML.
-use ansi_html::{
-    Scheme, has_ground, put_character, put_declarations, put_escaped, put_ground,
-};
+use ansi_html::{Scheme, has_ground, put_character, put_declarations, put_escaped, put_ground};
 use ansi_screen::Screen;
 use ansi_style::{Color, Hue, Style};
 use anstyle_parse::io::{Fault, FromWrite, Output};
@@ -72,7 +70,8 @@ const LIGHT: Drawing = Drawing {
     window: false,
 };
 
-const OF_LIGHT: &[u8] = b"<svg xmlns=\"http://www.w3.org/2000/svg\" viewBox=\"0 0 40 20\" font-family=\"F\" \
+const OF_LIGHT: &[u8] =
+    b"<svg xmlns=\"http://www.w3.org/2000/svg\" viewBox=\"0 0 40 20\" font-family=\"F\" \
     font-size=\"16.6\" xml:space=\"preserve\">\
     <style>svg{color-scheme:light;color:#000000}.page{color:#ffffff}.bar{color:#d9d9d9}text,rect,circle{fill:currentColor}\
     text{white-space:pre}a{color:inherit}.cursor{fill:none;stroke:currentColor}circle{fill-opacity:.15}\
@@ -80,7 +79,8 @@ const OF_LIGHT: &[u8] = b"<svg xmlns=\"http://www.w3.org/2000/svg\" viewBox=\"0 
     <text x=\"0\" y=\"15\" textLength=\"20\" style=\"font-weight:bold;\">&lt;b</text>\
     <text x=\"20\" y=\"15\" textLength=\"20\">\xe4\xb8\xad</text></svg>";
 
-const IN_WINDOW: &[u8] = b"<svg xmlns=\"http://www.w3.org/2000/svg\" viewBox=\"0 -30 40 50\" font-family=\"F\" \
+const IN_WINDOW: &[u8] =
+    b"<svg xmlns=\"http://www.w3.org/2000/svg\" viewBox=\"0 -30 40 50\" font-family=\"F\" \
     font-size=\"16.6\" xml:space=\"preserve\"><title>&amp;\xef\xbf\xbd</title>\
     <style>svg{color-scheme:dark;color:#ffffff}.page{color:#1e1e1e}.bar{color:#3b3b3b}text,rect,circle{fill:currentColor}\
     text{white-space:pre}a{color:inherit}.cursor{fill:none;stroke:currentColor}circle{fill-opacity:.15}\
@@ -132,7 +132,8 @@ fn said(alloc: Global, style: &Style) -> Ran {
 // Red is xterm's; white has a contrast of 5.9:1 on it (WCAG 2.1, 1.4.3).
 #[test]
 fn styles(rt: HostRuntime) {
-    let wanted = b"color:#ffffff;background-color:#cd0000;font-weight:bold;color:#cd0000;&lt;a&gt;&amp;";
+    let wanted =
+        b"color:#ffffff;background-color:#cd0000;font-weight:bold;color:#cd0000;&lt;a&gt;&amp;";
     assert_written(&rt, said(rt.alloc(), &bold_on_red()), wanted);
     assert!(rt; has_ground(&bold_on_red()));
     assert!(rt; !has_ground(&Style::default()));

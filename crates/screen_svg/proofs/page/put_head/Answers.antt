@@ -1,4 +1,4 @@
-use Rattle.std.proofs.Common.{[], ◌∷◌, ◌++◌, codes, ap, subst}
+use Rattle.std.proofs.Common.{[], ◌∷◌, ◌++◌, codes, subst}
 use Rattle.std.proofs.Common.{ℕ}
 use Rattle.anstyle_parse.specs.Io.Output.{Adds}
 use Rattle.screen_svg.specs.Xml.{start, xml}

@@ -1,5 +1,5 @@
 -- A row more is written.
-use Rattle.std.proofs.Common.{ℕ, List, sym, subst, add-one}
+use Rattle.std.proofs.Common.{List, sym, subst, add-one}
 use Rattle.anstyle_parse.specs.Io.Output.{Adds}
 use Rattle.ansi_screen.specs.declared.cell.Cell.{Cell}
 use Rattle.ansi_screen.specs.Display.{row_cells}

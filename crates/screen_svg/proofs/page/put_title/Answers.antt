@@ -1,5 +1,4 @@
-use Rattle.std.proofs.Common.{◌≡◌, Bool, false, List, [], codes, sym, ap, ◌∙◌, subst}
-use Rattle.std.specs.Prelude.{not}
+use Rattle.std.proofs.Common.{◌≡◌, false, List, [], codes, sym, ◌∙◌, subst}
 use Rattle.anstyle_parse.specs.Io.Output.{Adds}
 use Rattle.ansi_html.specs.Links.{is_none}
 use Rattle.screen_svg.specs.Characters.{text_of}

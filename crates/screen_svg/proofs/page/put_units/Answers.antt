@@ -1,4 +1,4 @@
-use Rattle.std.proofs.Common.{◌≡◌, ◌+◌, ◌*◌, Bool, true, false, List, ℕ, ◌++◌, codes, sym, ap, ap₂, ◌∙◌, subst}
+use Rattle.std.proofs.Common.{◌≡◌, ◌+◌, ◌*◌, Bool, List, ℕ, ◌++◌, codes, sym, ap, ap₂, ◌∙◌, subst}
 use Rattle.anstyle_parse.specs.Io.Output.{Adds}
 use Rattle.anstyle_parse.proofs.Written.Output.{Adds-append}
 use Rattle.screen_svg.specs.Picture.{pair, view}

@@ -2,7 +2,7 @@ use Rattle.std.proofs.Common.{◌≡◌, false, List, [], ◌∷◌, codes, sym,
 use Rattle.std.specs.List.{flat_map}
 use Rattle.anstyle_parse.specs.Io.Output.{Adds}
 use Rattle.ansi_style.specs.declared.style.Style.{Style}
-use Rattle.ansi_style.specs.Style.{plain, are_equal}
+use Rattle.ansi_style.specs.Style.{are_equal}
 use Rattle.ansi_html.specs.Css.{css}
 use Rattle.ansi_html.specs.Html.{is_plain}
 use Rattle.ansi_html.proofs.DeclarationLemmas.{escaped_text-safe, AreSafe-css}

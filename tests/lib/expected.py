@@ -12,6 +12,7 @@ from lib.log_rows import BEGUN_ROWS, LINES_CUT, READ_ROWS, RETURN_ROWS
 from lib.modes import ROOM_SHOWN, Mode, Program
 from lib.refusals import PARSELOG_USAGE, not_with_shown, refused_by, unknown, wants, wrong_size
 from lib.safe_rows import HIDDEN_ROWS, LEFT_OUT_ROWS, SAFE_LEFT_OUT_ROWS, SAFE_ROWS, SAFE_SHOWN_ROWS
+from lib.shown_further import FURTHER_MODES
 from lib.url_rows import URL_CUT, URL_ROWS, address
 
 
@@ -688,9 +689,6 @@ PROGRAMS = [
         + [(["--page", word], wrong_size(b"ansi2html")) for word in ("--shown=", "--shown=1x1", "--shown=1001x24")]
         + [(["--stylesheet", "--shown=0x0"], wrong_size(b"ansi2html")), (["--shown", "1001x24", "--page"], wrong_size(b"ansi2html"))]
         + [(words, b"ansi2html: lines are those of one file, or of each page of a folder (see ansi2html --help)") for words in (["--lines", "a", "b"], ["-", "--lines", "--page", "-"])]
-        + not_with_shown("ansi2html", "--lines", ["--lines", "--shown"], ["--shown=9x9", "--page", "--lines"])
-        + not_with_shown("ansi2html", "--urls", ["--urls", "--shown"], ["--shown=9x9", "--page", "--urls"])
-        + not_with_shown("ansi2html", "--no-hidden", ["--no-hidden", "--shown"], ["--shown=9x9", "--fragment", "--no-hidden"])
         + [
             (words, b"ansi2html: --fragment is not taken with --title, --css, --lang or --scroll (see ansi2html --help)")
             for words in (["--fragment", "--title=x"], ["--css", "a", "--fragment"], ["--page", "--lang=de", "--fragment"], ["--fragment", "--scroll"])
@@ -767,7 +765,8 @@ PROGRAMS = [
                 (["--fragment", "--light", "--shown", "--dark"], [("red", b"\x1b[31mx\n", span(b"color:#ff7b72;", b"x") + b"\n")], b"", b""),
                 (["--light", "--shown"], [("red", b"\x1b[31mx\n", span(b"color:#cf222e;", b"x") + b"\n")], LIGHT_HEAD, PAGE_TAIL),
             )
-        ],
+        ]
+        + FURTHER_MODES,
         options=[
             *("--page", "--fragment", "--title=TEXT", "--css=ADDRESS", "--lang=TAG", "--light", "--dark", "--classes", "--lines", "--scroll", "--urls", "--no-hidden"),
             "--stylesheet",

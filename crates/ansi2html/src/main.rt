@@ -12,24 +12,27 @@ ghost use Rattle.std.specs.Prelude.{IfSome};
 ghost use Rattle.screen_text.specs.Recording.{CanBeShown};
 
 use ansi_html::{Scheme, Styling};
-use anstyle_parse::io::{Sink, WritingPerformer};
+use anstyle_parse::io::Sink;
 use command_line::{
     OUTPUT, Target, answered, asked_of, buffered, failed, given_line, have_failed, inputs,
     is_folder, misused, outputs_in, value_of, wrong_size,
 };
 use each_source::{Begin, Stopped, Stream, write_each};
 use form::{Form, Said, write_stylesheet};
+use html_urls::Resumable;
 use names::title_of;
 use parts::{Frame, Part, one_has_failed, parts, write_parts};
+use screen_calls::{CallRows, ShowingFirst};
 use screen_html::{BlockRows, HtmlRows};
 use screen_text::{SHOWN, ShownSize, ShownWriter, screen_size};
+use std::alloc::Global;
 use std::process::ExitCode;
 use streams::{Blocking, BlockingUrls, Converting, ConvertingUrls, Lining, LiningUrls, Showing};
 use without_hidden::{LeavingOut, WithoutHidden};
 use words::{
-    HELP, HIDDEN_NOT_SHOWN, NO_FILES, NO_LANGUAGE, NOT_OF_A_PAGE, NOT_SHOWN, ONE_FILE, OPTIONS,
-    PAGES, URLS_NOT_SHOWN, asks_for_lines, asks_for_no_hidden, asks_for_stylesheet, asks_for_urls,
-    asks_to_scroll, form, language, says_of_a_page, scheme, stylesheet_address, styling, title_or,
+    HELP, NO_FILES, NO_LANGUAGE, NOT_OF_A_PAGE, ONE_FILE, OPTIONS, PAGES, asks_for_lines,
+    asks_for_no_hidden, asks_for_stylesheet, asks_for_urls, asks_to_scroll, form, language,
+    says_of_a_page, scheme, stylesheet_address, styling, title_or,
 };
 
 /// The name at the front of what the program says of failures.
@@ -60,17 +63,6 @@ fn main(rt: HostRuntime) -> ExitCode {
     if has_lines && line.files.len() > 1 && folder.is_none() {
         return misused(&rt, ONE_FILE);
     }
-    if has_lines && size.is_some() {
-        return misused(&rt, NOT_SHOWN);
-    }
-    let has_urls = asks_for_urls(options);
-    if has_urls && size.is_some() {
-        return misused(&rt, URLS_NOT_SHOWN);
-    }
-    let no_hidden = asks_for_no_hidden(options);
-    if no_hidden && size.is_some() {
-        return misused(&rt, HIDDEN_NOT_SHOWN);
-    }
     let styling = styling(options, scheme);
     let form = form(options);
     if form == Form::Fragment && says_of_a_page(options) {
@@ -99,8 +91,8 @@ fn main(rt: HostRuntime) -> ExitCode {
         form,
         frame,
         size,
-        has_urls,
-        no_hidden,
+        has_urls: asks_for_urls(options),
+        no_hidden: asks_for_no_hidden(options),
     };
     match folder {
         Some(folder) => pages(rt, options, names, folder, how),
@@ -108,14 +100,42 @@ fn main(rt: HostRuntime) -> ExitCode {
     }
 }
 
-/// How the text of files is written: with what around it on a page, shown by a screen or not, with addresses as links
-/// or not.
+/// How the text of files is written: with what around it on a page, shown by a screen first or not, with addresses as
+/// links or not, with hidden text or without.
 #[derive(Debug, Clone, Copy)]
 struct How<'a> {
     form: Form,
     frame: Frame<'a>,
     size: Option<ShownSize>,
     has_urls: bool,
+    no_hidden: bool,
+}
+
+impl How<'_> {
+    /// Whether what a screen shows is converted further: else its rows are written as they are.
+    fn converts_further(&self) -> bool {
+        self.frame.said.has_lines || self.has_urls || self.no_hidden
+    }
+
+    /// What is done with each stream before it is converted.
+    fn first(&self, alloc: Global) -> First
+        requires { IfSome self.now.size CanBeShown }
+        ensures { IfSome result.size CanBeShown }
+    {
+        First {
+            alloc,
+            size: self.size,
+            no_hidden: self.no_hidden,
+        }
+    }
+}
+
+/// What is done with each stream before it is converted: it is shown by a screen, or not, and then hidden text is left
+/// out, or not.
+#[derive(Clone, Copy)]
+struct First {
+    alloc: Global,
+    size: Option<ShownSize>,
     no_hidden: bool,
 }
 
@@ -176,24 +196,25 @@ fn page(rt: HostRuntime, names: &[String], output: Option<&str>, how: How<'_>) -
     let (written, output) = (parts.as_mut_slice(), buffered(output));
     let styling = how.frame.styling;
     let has_numbers = how.frame.said.has_lines;
+    let first = how.first(rt.alloc());
     let ran = match how.size {
-        Some(size) => {
+        Some(size) if !how.converts_further() => {
             let showing = Showing::new(rt.alloc(), size, styling);
             write_parts::<ShownWriter<BlockRows<_>>, _, _, _>(&showing, written, output)
         }
-        None if how.has_urls => {
+        _ if how.has_urls => {
             let blocking = BlockingUrls {
                 styling,
                 has_numbers,
             };
-            write_page(&blocking, how.no_hidden, written, output)
+            write_page(&blocking, first, written, output)
         }
-        None => {
+        _ => {
             let blocking = Blocking {
                 styling,
                 has_numbers,
             };
-            write_page(&blocking, how.no_hidden, written, output)
+            write_page(&blocking, first, written, output)
         }
     };
     target.ended(one_has_failed(parts.as_slice()), ran)
@@ -213,49 +234,88 @@ fn fragment(rt: HostRuntime, names: &[String], output: Option<&str>, how: How<'_
     let (readers, output) = (inputs.as_mut_slice(), buffered(output));
     let styling = how.frame.styling;
     let has_lines = how.frame.said.has_lines;
+    let first = how.first(rt.alloc());
     let ran = match how.size {
-        Some(size) => {
+        Some(size) if !how.converts_further() => {
             let showing = Showing::new(rt.alloc(), size, styling);
             write_each::<ShownWriter<HtmlRows<_>>, _, _, _>(&showing, b"", readers, output, b"")
         }
-        None if has_lines && how.has_urls => {
-            write_text(&LiningUrls { styling }, how.no_hidden, readers, output)
+        _ if has_lines && how.has_urls => {
+            write_text(&LiningUrls { styling }, first, readers, output)
         }
-        None if how.has_urls => {
-            write_text(&ConvertingUrls { styling }, how.no_hidden, readers, output)
-        }
-        None if has_lines => write_text(&Lining { styling }, how.no_hidden, readers, output),
-        None => write_text(&Converting { styling }, how.no_hidden, readers, output),
+        _ if how.has_urls => write_text(&ConvertingUrls { styling }, first, readers, output),
+        _ if has_lines => write_text(&Lining { styling }, first, readers, output),
+        _ => write_text(&Converting { styling }, first, readers, output),
     };
     target.ended(have_failed(inputs.as_slice()), ran)
 }
 
 /// Writes these parts of a page, with hidden text or without.
-fn write_page<P: WritingPerformer<W>, B: Begin<P, W> + Copy, R: Stream, W: Sink>(
+fn write_page<P: Resumable<W>, B: Begin<P, W> + Copy, R: Stream, W: Sink>(
     begin: &B,
-    no_hidden: bool,
+    first: First,
     parts: &mut [Part<R>],
     output: W,
-) -> (W, Result<(), Stopped>) {
-    if no_hidden {
+) -> (W, Result<(), Stopped>)
+    requires { IfSome first.size CanBeShown }
+{
+    if first.no_hidden {
         let begin = LeavingOut { begin: *begin };
-        return write_parts::<WithoutHidden<P>, _, _, _>(&begin, parts, output);
+        return write_page_of::<WithoutHidden<P>, _, _, _>(&begin, first, parts, output);
     }
-    write_parts::<P, _, _, _>(begin, parts, output)
+    write_page_of::<P, _, _, _>(begin, first, parts, output)
+}
+
+/// Writes them of what a screen showed, or of the streams as they are.
+fn write_page_of<P: Resumable<W>, B: Begin<P, W> + Copy, R: Stream, W: Sink>(
+    begin: &B,
+    first: First,
+    parts: &mut [Part<R>],
+    output: W,
+) -> (W, Result<(), Stopped>)
+    requires { IfSome first.size CanBeShown }
+{
+    match first.size {
+        Some(size) => {
+            let begin = ShowingFirst::new(first.alloc, size, *begin);
+            write_parts::<ShownWriter<CallRows<P, W>>, _, _, _>(&begin, parts, output)
+        }
+        None => write_parts::<P, _, _, _>(begin, parts, output),
+    }
 }
 
 /// Writes the text of these streams, with hidden text or without.
-fn write_text<P: WritingPerformer<W>, B: Begin<P, W> + Copy, R: Stream, W: Sink>(
+fn write_text<P: Resumable<W>, B: Begin<P, W> + Copy, R: Stream, W: Sink>(
     begin: &B,
-    no_hidden: bool,
+    first: First,
     readers: &mut [R],
     output: W,
-) -> (W, Result<(), Stopped>) {
-    if no_hidden {
+) -> (W, Result<(), Stopped>)
+    requires { IfSome first.size CanBeShown }
+{
+    if first.no_hidden {
         let begin = LeavingOut { begin: *begin };
-        return write_each::<WithoutHidden<P>, _, _, _>(&begin, b"", readers, output, b"");
+        return write_text_of::<WithoutHidden<P>, _, _, _>(&begin, first, readers, output);
     }
-    write_each::<P, _, _, _>(begin, b"", readers, output, b"")
+    write_text_of::<P, _, _, _>(begin, first, readers, output)
+}
+
+/// Writes it of what a screen showed, or of the streams as they are.
+fn write_text_of<P: Resumable<W>, B: Begin<P, W> + Copy, R: Stream, W: Sink>(
+    begin: &B,
+    first: First,
+    readers: &mut [R],
+    output: W,
+) -> (W, Result<(), Stopped>)
+    requires { IfSome first.size CanBeShown }
+{
+    match first.size {
+        Some(size) => {
+            let begin = ShowingFirst::new(first.alloc, size, *begin);
+            write_each::<ShownWriter<CallRows<P, W>>, _, _, _>(&begin, b"", readers, output, b"")
+        }
+        None => write_each::<P, _, _, _>(begin, b"", readers, output, b""),
+    }
 }
 
 /// Writes the stylesheet.

@@ -63,25 +63,13 @@ pub const NO_FILES: &str = "ansi2html: --stylesheet reads no file (see ansi2html
 pub const ONE_FILE: &str =
     "ansi2html: lines are those of one file, or of each page of a folder (see ansi2html --help)";
 
-/// What is said where lines are asked for of what a terminal showed.
-pub const NOT_SHOWN: &str =
-    "ansi2html: --lines and --shown are not taken together (see ansi2html --help)";
-
-/// What is said where addresses are asked for as links in what a terminal showed.
-pub const URLS_NOT_SHOWN: &str =
-    "ansi2html: --urls and --shown are not taken together (see ansi2html --help)";
-
-/// What is said where text without what is hidden is asked for of what a terminal showed.
-pub const HIDDEN_NOT_SHOWN: &str =
-    "ansi2html: --no-hidden and --shown are not taken together (see ansi2html --help)";
-
 /// What `--help` says.
 pub const HELP: &str = "\
 usage: ansi2html [--page] [--title=TEXT] [--css=ADDRESS] [--lang=TAG] [--scroll]
                  [--light | --dark] [--classes] [--lines] [--urls] [--no-hidden]
                  [--shown | --shown=COLUMNSxROWS] [-o FILE] [FILE]..
        ansi2html --fragment [--light | --dark] [--classes] [--lines] [--urls]
-                 [--no-hidden | --shown | --shown=COLUMNSxROWS] [-o FILE] [FILE]..
+                 [--no-hidden] [--shown | --shown=COLUMNSxROWS] [-o FILE] [FILE]..
        ansi2html --stylesheet [--light | --dark] [-o FILE]
 
 Writes the text of files as a web page, in its colours, or as a fragment, to be put into
@@ -106,13 +94,12 @@ next word, as in --title TEXT.
   --lines                 each line in an element of its own with its number, to link
                           to: page.html#L10; numbers are not copied with the text.
                           A page draws them; a fragment needs the rules that
-                          --stylesheet writes. For one FILE a page, and not with
-                          --shown
+                          --stylesheet writes. For one FILE a page
   --scroll                long lines are not wrapped: the page scrolls
   --urls                  addresses in the text that begin with https://, http:// or
-                          mailto: are links too. Not with --shown
+                          mailto: are links too
   --no-hidden             leave out the text that a terminal hides (SGR 8), as
-                          Jenkins writes notes into its logs; not with --shown
+                          Jenkins writes notes into its logs
   --stylesheet            write the stylesheet of classes, lines and pages by --css, and
                           read nothing
   --shown                 write what a terminal showed instead: the lines that

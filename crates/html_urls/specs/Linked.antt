@@ -1,10 +1,10 @@
 -- The calls of a stream in which addresses in its text are links (OSC 8).
-use Rattle.std.specs.Prelude.{ℕ, Bool, true, false, not, ◌&&◌, ◌==◌, List, [], ◌∷◌, ◌++◌, codes, map, if◌then◌else◌}
+use Rattle.std.specs.Prelude.{ℕ, Bool, true, false, not, nat_le, ◌&&◌, ◌==◌, List, [], ◌∷◌, ◌++◌, codes, count_by, map, if◌then◌else◌}
 use Rattle.std.specs.List.{slice_split}
 use Rattle.anstyle_parse.specs.Stream.Bytes.{semicolon}
 use Rattle.anstyle_parse.specs.Stream.Call.{Call, print, osc_dispatch}
 use Rattle.ansi_html.specs.Links.{is_none, is_link_command, uri_of}
-use Rattle.html_urls.specs.Addresses.{is_of_word, begins_scheme, goes_on, address_of, behind_address, target_of, is_link}
+use Rattle.html_urls.specs.Addresses.{max_separators, is_of_word, begins_scheme, goes_on, address_of, behind_address, target_of, is_link}
 
 -- Where a stream stands: what may become an address is held back; whether the last character is one of a scheme; and
 -- whether a link of the stream's own is open, whose text stays as it is.
@@ -22,6 +22,10 @@ at_start = standing [] false false
 -- the command that begins a link, parted at its separators as a parser would, or, of none, ends it
 abbrev pub link_command : (target : List ℕ) → Call
 link_command target = osc_dispatch (codes "8" ∷ [] ∷ slice_split (λ b. b == semicolon) target) false
+
+-- A link for whose separators a command has no room is none.
+abbrev pub with_room : (link : List ℕ) → List ℕ
+with_room link = if nat_le (count_by (λ b. b == semicolon) link) max_separators then link else []
 
 abbrev pub prints : List ℕ → List Call
 prints text = map print text

@@ -42,6 +42,12 @@ pub record Takes {P : Type 0} (receives : P → List Call → P → Type 0)
 abbrev pub text_from : {P : Type 0} → (P → List Call → List ℕ) → Linking P → List Call → List ℕ
 text_from written linking calls = written (performer_in linking) (handed_from (standing_of linking) calls)
 
+abbrev pub text_after : {P : Type 0} → (P → (calls more : List Call) → List ℕ) → Linking P → (calls more : List Call)
+    → List ℕ
+text_after written_after linking calls more =
+    let at = standing_of linking in
+    written_after (performer_in linking) (handed_from at calls) (handed_from (standing_at_end at calls) more)
+
 abbrev pub ending_from : {P : Type 0} → (P → (calls more : List Call) → List ℕ) → (P → List Call → List ℕ)
     → Linking P → List Call → List ℕ
 ending_from written_after ending linking calls =

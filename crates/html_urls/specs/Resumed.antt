@@ -10,6 +10,9 @@ use Rattle.ansi_html.specs.Liner as liner
 use Rattle.ansi_html.specs.declared.blocks.BlocksWriter.{BlocksWriter}
 use Rattle.ansi_html.specs.Blocks.{blocked_from, blocked_at_end}
 use Rattle.ansi_html.specs.Blocker as blocker
+use Rattle.without_hidden.specs.declared.performer.WithoutHidden.{WithoutHidden}
+use Rattle.without_hidden.specs.Hidden.{without_hidden, style_from}
+use Rattle.without_hidden.specs.Passing.{performer_in, style_in}
 
 -- A performer goes on: what it writes of more calls, after some, is what it writes of them as it then stands, with the
 -- ending of all calls; and the one after the other is what it writes of all calls.
@@ -34,3 +37,9 @@ abbrev pub blocked_after : {W : Type 0} → BlocksWriter W → (calls more : Lis
 blocked_after performer calls more =
     blocked_from (blocker.numbered_of performer) (blocker.styling_of performer)
     (blocked_at_end (blocker.numbered_of performer) (blocker.blocked_of performer) calls) more
+
+abbrev pub shown_after : {P : Type 0} → (P → (calls more : List Call) → List ℕ) → WithoutHidden P
+    → (calls more : List Call) → List ℕ
+shown_after written_after it calls more =
+    written_after (performer_in it) (without_hidden (style_in it) calls)
+    (without_hidden (style_from (style_in it) calls) more)

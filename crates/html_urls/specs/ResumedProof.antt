@@ -1,6 +1,6 @@
 -- No definition, but proofs: the language wants those of a trait's laws among the specs.
 -- Writers of HTML go on as their HTML of all calls does.
-use Rattle.std.proofs.Common.{◌≡◌, Bool, List, ◌++◌, sym, ap, ap₂, ◌∙◌}
+use Rattle.std.proofs.Common.{◌≡◌, ℕ, Bool, List, ◌++◌, sym, ap, ap₂, ◌∙◌}
 use Rattle.anstyle_parse.specs.declared.io.devices.Sink.{Ghosts as SinkOf}
 use Rattle.anstyle_parse.specs.Stream.Call.{Call}
 use Rattle.ansi_html.specs.declared.performer.HtmlWriter.{HtmlWriter}
@@ -15,7 +15,11 @@ use Rattle.ansi_html.specs.Blocker as blocker
 use Rattle.ansi_html.specs.AddingProof.{html_from-append, standing_at_end-append}
 use Rattle.ansi_html.specs.LiningProof.{lined_from-append, lined_at_end-append}
 use Rattle.ansi_html.specs.BlockingProof.{blocked_from-append, blocked_at_end-append}
-use Rattle.html_urls.specs.Resumed.{Resumes, html_after, lined_after, blocked_after}
+use Rattle.without_hidden.specs.declared.performer.WithoutHidden.{WithoutHidden}
+use Rattle.without_hidden.specs.Hidden.{without_hidden, style_from}
+use Rattle.without_hidden.specs.Passing.{performer_in, style_in, ReceivesShown}
+use Rattle.without_hidden.specs.PassingProof.{without-append}
+use Rattle.html_urls.specs.Resumed.{Resumes, html_after, lined_after, blocked_after, shown_after}
 
 module _ {W : Type 0} (sink : SinkOf W) where
   html-resumes : (old : HtmlWriter W) (calls : List Call) (new : HtmlWriter W) → writer.TakesAll sink old calls new
@@ -84,3 +88,32 @@ module _ {W : Type 0} (sink : SinkOf W) where
     same_ending = blocked-ends sink;
     joined = blocked-joined;
   }
+
+-- One before which hidden text is left out goes on as it does.
+module _ {P : Type 0} {receives : P → List Call → P → Type 0} {written : P → List Call → List ℕ} {after : P → (calls more : List Call) → List ℕ}
+    {ending : P → List Call → List ℕ} (goes_on : Resumes receives written after ending) where
+  shown-text : (old : WithoutHidden P) (calls : List Call) (new : WithoutHidden P) → ReceivesShown receives old calls new → (more : List Call)
+      → written (performer_in new) (without_hidden (style_in new) more) ≡ shown_after after old calls more
+  shown-text old calls new received more =
+      let stay = without_hidden (style_in old) calls in
+      goes_on.same_text (performer_in old) stay (performer_in new) received.performer (without_hidden (style_in new) more)
+      ∙ ap (λ style. after (performer_in old) stay (without_hidden style more)) received.style
+
+  shown-ending : (old : WithoutHidden P) (calls : List Call) (new : WithoutHidden P) → ReceivesShown receives old calls new → (more : List Call)
+      → ending (performer_in new) (without_hidden (style_in new) more) ≡ ending (performer_in old) (without_hidden (style_in old) (calls ++ more))
+  shown-ending old calls new received more =
+      let stay = without_hidden (style_in old) calls in
+      goes_on.same_ending (performer_in old) stay (performer_in new) received.performer (without_hidden (style_in new) more)
+      ∙ ap (λ style. ending (performer_in old) (stay ++ without_hidden style more)) received.style
+      ∙ ap (ending (performer_in old)) (sym (without-append (style_in old) calls more))
+
+  shown-joined : (it : WithoutHidden P) (calls more : List Call)
+      → written (performer_in it) (without_hidden (style_in it) calls) ++ shown_after after it calls more
+      ≡ written (performer_in it) (without_hidden (style_in it) (calls ++ more))
+  shown-joined it calls more =
+      goes_on.joined (performer_in it) (without_hidden (style_in it) calls) (without_hidden (style_from (style_in it) calls) more)
+      ∙ ap (written (performer_in it)) (sym (without-append (style_in it) calls more))
+
+  pub shown-goes_on : Resumes (ReceivesShown receives) (λ it calls. written (performer_in it) (without_hidden (style_in it) calls)) (shown_after after)
+      (λ it calls. ending (performer_in it) (without_hidden (style_in it) calls))
+  shown-goes_on = record { same_text = shown-text; same_ending = shown-ending; joined = shown-joined }

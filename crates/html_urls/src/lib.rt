@@ -15,5 +15,5 @@ mod linking;
 mod target;
 mod writing;
 
-pub use linking::Linking;
+pub use linking::{Linking, begin_link};
 pub use writing::Resumable;

@@ -6,13 +6,13 @@ ghost use Rattle.anstyle_parse.specs.Stream.Items.{EachIs};
 ghost use Rattle.ansi_html.specs.Links.{is_none, is_link_command, uri_of};
 ghost use Rattle.anstyle_parse.specs.Stream.Bytes.{semicolon};
 ghost use Rattle.html_urls.specs.Addresses.{max_separators, address_of, target_of, is_link};
-ghost use Rattle.html_urls.specs.Linked.{Standing, at_start, standing, link_command, prints, released, begins, linked_after};
+ghost use Rattle.html_urls.specs.Linked.{Standing, at_start, standing, link_command, with_room, prints, released, begins, linked_after};
 ghost use Rattle.html_urls.specs.Colon.{is_no_colon, EndsOff};
 
 use crate::address::{begins_scheme, is_address, is_of_word, split_address};
 use crate::colon::{split_at_colon, split_at_scheme};
 use crate::held::{Held, ROOM};
-use crate::target::{Target, link_parts, target_of};
+use crate::target::{MAX_SEPARATORS, Target, link_parts, separators, target_of};
 use ansi_html::is_link_command;
 use anstyle_parse::{Params, Perform, PerformText};
 
@@ -49,6 +49,18 @@ fn select_link<P: PerformText>(performer: &mut P, target: &[u8])
 {
     let (parts, count) = link_parts(target);
     performer.osc_dispatch(&parts[..count], false);
+}
+
+/// Begins a link by a command (OSC 8), or, of none, ends the one that is open. A link of more than twelve `;` is none:
+/// each of them parts the command, which has no room for more.
+pub fn begin_link<P: PerformText>(performer: &mut P, link: &[u8])
+    ensures { P.receives performer.old (link_command (with_room link.now) ∷ []) performer.new }
+{
+    if separators(link) <= MAX_SEPARATORS {
+        select_link(performer, link);
+    } else {
+        select_link(performer, b"");
+    }
 }
 
 /// What the link has of what was held back, where its front is this address, if that is one and was held whole.

@@ -13,7 +13,7 @@ use arrayvec::ArrayVec;
 const CAPACITY: usize = ROOM - 1 + 12;
 
 /// The separators in a link at most: the parser hands on sixteen parts of a command, and of fifteen none is cut off.
-const MAX_SEPARATORS: usize = 12;
+pub(crate) const MAX_SEPARATORS: usize = 12;
 
 /// The parts of the command that begins a link at most: its number, no parameters, and those of the link.
 pub(crate) const MAX_PARTS: usize = 3 + MAX_SEPARATORS;
@@ -100,7 +100,7 @@ fn scheme_of(address: &[char]) -> &'static [u8]
 }
 
 /// How many separators of commands stand in the bytes.
-fn separators(bytes: &[u8]) -> usize
+pub(crate) fn separators(bytes: &[u8]) -> usize
     ensures { result ≡ count_by (λ b. b == semicolon) bytes.now }
 {
     bytes.iter().filter(|byte| **byte == b';').count()

@@ -6,6 +6,7 @@ ghost use Rattle.html_urls.specs.Resumed.{Resumes};
 use crate::linking::Linking;
 use ansi_html::{BlocksWriter, HtmlWriter, LinesWriter};
 use anstyle_parse::io::{Output, Sink, WritingPerformer};
+use without_hidden::WithoutHidden;
 
 /// One of which it is known what it writes by more calls, after some.
 pub trait Resumable<W: Sink>: WritingPerformer<W> {
@@ -72,4 +73,24 @@ impl<P: Resumable<W>, W: Sink> WritingPerformer<W> for Linking<P> {
     ghost adds = { λ old calls new taken. P.adds (performer_in old) _ (performer_in new) taken.received };
 
     ghost ends = { λ old calls new taken _. ends-taken P.goes_on P.follows.none old calls new taken };
+}
+
+/// It goes on as what it hands on to does.
+impl<P: Resumable<W>, W: Sink> Resumable<W> for Linking<P> {
+    ghost use Rattle.html_urls.specs.Linker.{text_after};
+    ghost use Rattle.html_urls.specs.LinkerProof.{linking-goes_on};
+
+    ghost text_after = { text_after P.text_after };
+
+    ghost goes_on = { linking-goes_on P.goes_on };
+}
+
+/// So does one before which hidden text is left out.
+impl<P: Resumable<W>, W: Sink> Resumable<W> for WithoutHidden<P> {
+    ghost use Rattle.html_urls.specs.Resumed.{shown_after};
+    ghost use Rattle.html_urls.specs.ResumedProof.{shown-goes_on};
+
+    ghost text_after = { shown_after P.text_after };
+
+    ghost goes_on = { shown-goes_on P.goes_on };
 }

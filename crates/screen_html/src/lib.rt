@@ -47,6 +47,7 @@ pub use blocks::BlockRows;
 pub use page::write_screen;
 pub use rows::HtmlRows;
 use screen_text::ShownWriter;
+pub use spare::{begin_link, end_line};
 pub use table::{LinkMemory, LinkTable};
 
 /// Writes what a screen showed of all bytes that the reader gives as HTML: the lines of

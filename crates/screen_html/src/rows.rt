@@ -10,7 +10,7 @@ ghost use Rattle.screen_html.specs.Paid.{purse_of, paid, purse_after};
 ghost use Rattle.screen_html.specs.Shown.{cell_styled, line_feed, linking_of, row_styled, row_linking};
 
 use crate::runs::{BLOCK, copy_run, put_run};
-use crate::spare::{FEED_EARNS, begin_link, credited};
+use crate::spare::{begin_link, end_line};
 use crate::table::{LinkMemory, LinkTable};
 use ansi_html::{Link, StyledWriter, Styling};
 use ansi_screen::{Cell, LeftOut, Marks, TakeCommand, TakeRow, goes_on, used_of_written};
@@ -114,8 +114,7 @@ pub(crate) fn put_row<W: Sink>(
     put_cells(writer, links, last, spare, &row[..end]);
     if !goes_on(row) {
         put_line_feed(writer, links);
-        last.assign(links.none());
-        *spare = credited(FEED_EARNS, *spare);
+        end_line(links, last, spare);
     }
 }
 

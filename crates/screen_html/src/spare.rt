@@ -1,9 +1,10 @@
 //! What is spare to begin links with.
-ghost use Rattle.std.specs.Prelude.{◌≡◌, length, if◌then◌else◌, Some, None};
+ghost use Rattle.std.specs.Prelude.{◌≡◌, false, length, if◌then◌else◌, Some, None};
 ghost use Rattle.ansi_html.specs.Affordable.{link_cost, is_paid, left_of};
 ghost use Rattle.ansi_html.specs.Html.{escaped};
 ghost use Rattle.screen_html.specs.Links.{credited, link_at};
 ghost use Rattle.screen_html.specs.Paid.{purse_of, purse_with};
+ghost use Rattle.screen_html.specs.Shown.{line_ended};
 
 use crate::table::LinkTable;
 use ansi_html::Link;
@@ -62,9 +63,9 @@ fn escaped_length(byte: u8) -> usize
     }
 }
 
-/// Text of the link of a number follows. Unless it is that of the last text, it is paid; where it can't be, the text
-/// has none.
-pub(crate) fn begin_link(links: &LinkTable, number: u32, last: &mut Link, spare: &mut usize)
+/// Text of the link of a number follows. Unless it is that of the last text, it is paid with what is spare; where it
+/// can't be, the text has none. `last` becomes the link that the text has.
+pub fn begin_link(links: &LinkTable, number: u32, last: &mut Link, spare: &mut usize)
     ensures { purse_of last.new spare.new
         ≡ purse_with (purse_of last.old spare.old) (link_at number links.now.places) }
 {
@@ -78,4 +79,12 @@ pub(crate) fn begin_link(links: &LinkTable, number: u32, last: &mut Link, spare:
             None => last.assign(links.none()),
         }
     }
+}
+
+/// A line feed follows, which is in no link, and earns.
+pub fn end_line(links: &LinkTable, last: &mut Link, spare: &mut usize)
+    ensures { purse_of last.new spare.new ≡ line_ended false (purse_of last.old spare.old) }
+{
+    last.assign(links.none());
+    *spare = credited(FEED_EARNS, *spare);
 }

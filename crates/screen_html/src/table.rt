@@ -113,15 +113,15 @@ impl LinkTable {
         })
     }
 
-    /// What is spare to begin links with.
-    pub(crate) fn spare(&self) -> usize
+    /// What is spare to begin links with, in bytes of HTML.
+    pub fn spare(&self) -> usize
         ensures { result ≡ self.now.spare }
     {
         self.spare
     }
 
     /// So much is left of it.
-    pub(crate) fn set_spare(&mut self, spare: usize)
+    pub fn set_spare(&mut self, spare: usize)
         ensures { self.new ≡ table self.old.places spare }
     {
         self.spare = spare;

@@ -1,7 +1,7 @@
 -- The row ends.
-use Rattle.std.proofs.Common.{List, ℕ, true, false, take, map, sym, ap, ap₂, ◌∙◌}
+use Rattle.std.proofs.Common.{List, ℕ, true, false, take, map, sym, ap, ◌∙◌}
 use Rattle.screen_html.specs.Links.{table}
-use Rattle.screen_html.specs.Paid.{purse_of, purse_after}
+use Rattle.screen_html.specs.Paid.{Purse, purse_of, purse_after}
 use Rattle.screen_html.specs.Shown.{cell_styled, linked, linking_of}
 use Rattle.screen_html.proofs.RowLemmas.{writes-row, writes-row_on, row-ends}
 use Rattle.screen_html.proofs.rows.put_row.Goals as goal
@@ -19,7 +19,7 @@ returns-then-not-goes_on-clause-linking g c =
     let after = purse_of c.put_cells.new.last c.put_cells.new.spare in
     let spent = c.put_cells.ensures.spent
     ∙ ap (λ (n : ℕ). purse_after before (map (cell_styled places) (take n c.args.row.now))) c.used_of_written-end.ensures.used in
-    ap₂ (λ (last : List ℕ) (spare : ℕ). linked last (table places spare)) (c.assign.ensures ∙ c.none.ensures) c.credited.ensures
+    ap (λ (it : Purse). linked it.last (table places it.spare)) c.end_line.ensures
     ∙ row-ends places c.args.row.now false before after spent (sym c.goes_on.ensures ∙ c.if-not-goes_on.true)
 
 pub returns-else-not-goes_on-clause-written : goal.returns-else-not-goes_on-clause-written

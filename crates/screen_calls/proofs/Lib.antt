@@ -1,0 +1,5 @@
+pub mod SequenceLemmas
+pub mod ReceivedLemmas
+pub mod WrittenLemmas
+pub mod TextLemmas
+pub mod StyleLemmas

@@ -49,7 +49,9 @@ impl Display {
         let columns = columns(c);
         if columns == 0 {
             self.mark(c);
-        } else if self.cursor.column + usize::from(columns) + 1 < self.cells.width() && !self.inserts {
+        } else if self.cursor.column + usize::from(columns) + 1 < self.cells.width()
+            && !self.inserts
+        {
             self.put_cells(columns, c);
         } else {
             self.wrap(columns);

@@ -1,7 +1,7 @@
 -- What decides on a screen beside what shows: the cursor's place and those that are saved, tab stops and hidden rows.
 --
 -- Sources: the VT510 manual (DECSC, DECSTBM, HTS, TBC); xterm's ctlseqs (1049).
-use Rattle.std.specs.Prelude.{◌≡◌, ◌<◌, ◌≤◌, ◌⊎◌, ◌*◌, ◌&&◌, ◌==◌, ℕ, Bool, true, false, Option, None, Some, List, take, drop, map, replicate, if◌then◌else◌}
+use Rattle.std.specs.Prelude.{◌≡◌, ◌<◌, ◌≤◌, ◌⊎◌, ◌*◌, ◌&&◌, ◌==◌, ℕ, true, false, Option, None, Some, List, take, drop, map, replicate, if◌then◌else◌}
 use Rattle.std.specs.List.{All}
 use Rattle.ansi_style.specs.Bytes.{style_of, is_set}
 use Rattle.ansi_screen.specs.declared.cell.Cell.{Cell}

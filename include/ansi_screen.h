@@ -82,11 +82,12 @@ enum {
     ANSI_UNDERLINE_DASHED = 5
 };
 
-/* How text is shown, in 17 bytes. From `bold` on each is 1 or 0. */
+/* How text is shown, in 25 bytes. From `bold` on each is 1 or 0. */
 typedef struct ansi_style {
     ansi_color foreground, background;
     uint8_t underline;
     uint8_t bold, dim, italic, blink, reverse, hidden, struck_out, overlined;
+    uint8_t reserved[8]; /* 0 */
 } ansi_style;
 
 /* How much of a character a cell has. */
@@ -97,7 +98,7 @@ enum {
     ANSI_PART_RIGHT = 3 /* its right half, whose character is a space */
 };
 
-/* What one place of a screen shows, in 36 bytes. */
+/* What one place of a screen shows, in 52 bytes. */
 typedef struct ansi_cell {
     uint32_t character; /* its code point */
     uint32_t marks[2];  /* the characters of no column that came after it: `mark_count` of them */
@@ -106,6 +107,7 @@ typedef struct ansi_cell {
     uint8_t mark_count;
     uint8_t part;
     uint8_t goes_on; /* 1 in the last cell of a row from which autowrap went on to the next: both are one line */
+    uint8_t reserved[8]; /* 0 */
 } ansi_cell;
 
 /* Modes, in 16 bytes: each is 1 where it is on, else 0; and from `cursor_keys` on what a program asked for. */
@@ -135,7 +137,7 @@ enum {
     ANSI_PLACE_HIDDEN = 2 /* the main screen's while the alternate one shows: where the cursor was (1049), and goes back to */
 };
 
-/* A place of the cursor, and what DECSC saves with it, in 40 bytes: each from `origin` on is 1 where it is so, else 0. */
+/* A place of the cursor, and what DECSC saves with it, in 48 bytes: each from `origin` on is 1 where it is so, else 0. */
 typedef struct ansi_place {
     size_t row, column;   /* from the screen's first row and column on */
     ansi_style style;     /* of what comes next */

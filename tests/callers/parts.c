@@ -15,10 +15,10 @@
 #include <stdlib.h>
 #include <string.h>
 
-static_assert(sizeof(ansi_place) == 40, "a place has 40 bytes");
+static_assert(sizeof(ansi_place) == 48, "a place has 48 bytes");
 static_assert(offsetof(ansi_place, column) == 8 && offsetof(ansi_place, style) == 16, "of which numbers are first");
-static_assert(offsetof(ansi_place, origin) == 33 && offsetof(ansi_place, uses_g1) == 37, "bytes stand after the style");
-static_assert(offsetof(ansi_place, reserved) == 38, "and two are not used");
+static_assert(offsetof(ansi_place, origin) == 41 && offsetof(ansi_place, uses_g1) == 45, "bytes stand after the style");
+static_assert(offsetof(ansi_place, reserved) == 46, "and two are not used");
 
 /* The types: with another one this is a warning, and warnings are errors. */
 static bool (*const place_of)(ansi_screen *, unsigned char, ansi_place *) = ansi_screen_place;
@@ -48,7 +48,7 @@ static void put_place(unsigned which, const ansi_place *place)
     put_word("italic", place->style.italic);
     if (place->style.foreground.kind == ANSI_COLOR_NAMED)
         printf(" foreground=%u", place->style.foreground.values[0]);
-    expect(!place->reserved[0] && !place->reserved[1], "what is reserved is 0");
+    expect(!place->reserved[0] && !place->reserved[1] && are(place->style.reserved, 8, 0), "what is reserved is 0");
     putchar('\n');
 }
 
@@ -81,7 +81,7 @@ static void put_hidden(ansi_screen *screen, size_t row, size_t columns)
     expect(are((unsigned char *)(cells + columns), sizeof *cells, GUARD), "past the cells the room is as it was");
     printf("hidden %zu ", row);
     for (column = 0; column < columns; column++)
-        printf(cells[column].style.bold ? "*%c" : "%c", (char)cells[column].character);
+        printf(cells[column].style.bold ? "*%c" : "%c", are(cells[column].reserved, 8, 0) ? (char)cells[column].character : '?');
     putchar('\n');
 }
 

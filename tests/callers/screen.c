@@ -18,13 +18,15 @@
 
 static_assert(sizeof(ansi_screen) == 8, "a screen is a pointer");
 static_assert(sizeof(ansi_color) == 4, "a colour is bytes");
-static_assert(sizeof(ansi_style) == 17, "and so is a style");
+static_assert(sizeof(ansi_style) == 25, "and so is a style");
 static_assert(offsetof(ansi_style, background) == 4 && offsetof(ansi_style, underline) == 8, "colours are first");
 static_assert(offsetof(ansi_style, bold) == 9 && offsetof(ansi_style, overlined) == 16, "attributes stand in order");
-static_assert(sizeof(ansi_cell) == 36, "a cell has 36 bytes");
+static_assert(offsetof(ansi_style, reserved) == 17, "and eight bytes are not used");
+static_assert(sizeof(ansi_cell) == 52, "a cell has 52 bytes");
 static_assert(offsetof(ansi_cell, style) == 16, "of which its style stands after its numbers");
 static_assert(offsetof(ansi_cell, marks) == 4 && offsetof(ansi_cell, link) == 12, "numbers are first");
-static_assert(offsetof(ansi_cell, mark_count) == 33 && offsetof(ansi_cell, goes_on) == 35, "bytes are last");
+static_assert(offsetof(ansi_cell, mark_count) == 41 && offsetof(ansi_cell, goes_on) == 43, "bytes are last");
+static_assert(offsetof(ansi_cell, reserved) == 44, "of which eight are not used");
 static_assert(sizeof(ansi_modes) == 16, "modes have 16 bytes");
 static_assert(sizeof(ansi_screen_options) == 64, "options have 64 bytes");
 static_assert(offsetof(ansi_modes, reserved) == 15 && offsetof(ansi_modes, mouse) == 7, "of which one is not used");
@@ -164,12 +166,24 @@ static bool at(ansi_screen *screen, size_t row, size_t column)
     return cursor_of(screen, &found_row, &found_column) && found_row == row && found_column == column;
 }
 
+/* What is reserved of so many cells is 0. */
+static bool is_reserved(const ansi_cell *cells, size_t count)
+{
+    size_t place;
+
+    for (place = 0; place < count; place++) {
+        if (!are(cells[place].reserved, 8, 0) || !are(cells[place].style.reserved, 8, 0))
+            return false;
+    }
+    return true;
+}
+
 static ansi_cell cell(ansi_screen *screen, size_t row, size_t column)
 {
     ansi_cell it;
 
     memset(&it, GUARD, sizeof it);
-    expect(cell_of(screen, row, column, &it), "a cell is there");
+    expect(cell_of(screen, row, column, &it) && is_reserved(&it, 1), "a cell is there");
     return it;
 }
 
@@ -299,12 +313,13 @@ static void cells_and_styles(void)
     row_is(&it, 0, "hie\xcc\x81\xcc\xa8\xe4\xb8\xad", "a row has marks and wide characters once");
     part_is(&it, 0, 4, 5, "");
     memset(row, GUARD, sizeof row);
-    expect(row_of(&it, 0, row, 8), "a row is written");
+    expect(row_of(&it, 0, row, 8) && is_reserved(row, 6), "a row is written");
     expect(row[3].character == 0x4E2D && row[1].character == 'i' && row[5].part == ANSI_PART_EMPTY, "as its cells");
     expect(are((unsigned char *)(row + 6), 2 * sizeof *row, GUARD), "and no further");
+    memset(&style, GUARD, sizeof style);
     feed_text(&it, "\033[3;94;45m");
     expect(style_of(&it, &style) && style.italic == 1 && is_color(style.foreground, ANSI_COLOR_BRIGHT, 4, 0, 0), "94");
-    expect(is_color(style.background, ANSI_COLOR_NAMED, 5, 0, 0) && !style.bold, "45");
+    expect(is_color(style.background, ANSI_COLOR_NAMED, 5, 0, 0) && !style.bold && are(style.reserved, 8, 0), "45");
     close_screen(&it);
 }
 
@@ -603,7 +618,7 @@ static void rows_that_left(void)
     kept_is(&it, 2, "dddd");
     shows(&it, "ef\n", "the rest shows");
     memset(row, GUARD, sizeof row);
-    expect(kept_row(&it, 2, row, 6) && row[0].character == 'd' && row[0].style.bold == 1 && row[3].goes_on == 1, "a row has its cells");
+    expect(kept_row(&it, 2, row, 6) && row[0].character == 'd' && row[0].style.bold == 1 && row[3].goes_on == 1 && is_reserved(row, 4), "a row has its cells");
     expect(are((unsigned char *)(row + 4), 2 * sizeof *row, GUARD), "and no more");
     expect(kept_row(&it, 0, row, 4) && row[0].character == 'b' && row[1].character == ' ' && !row[3].goes_on, "and its blanks");
     memset(row, GUARD, sizeof row);

@@ -70,8 +70,8 @@ PHRASES = {
     ],
     "include/ansi_screen.h": [
         *OWED, *ANSWERED, "in {ansi_rgb} bytes: or none, where told is 0", "own colours, in {ansi_colors} bytes", "a character that is broken is u+fffd", "none, in {ansi_screen} bytes", "any other number is {ANY_STYLING}", "one of xterm's 256, by its number", "a colour, in {ansi_color} bytes",
-        "is shown, in {ansi_style} bytes", "from bold on each is {ON} or {OFF}", "of a screen shows, in {ansi_cell} bytes", "each link (osc 8) since the last reset; {NO_LINK} for none",
-        "{GOES_ON} in the last cell of a row from which autowrap went on", "modes, in {ansi_modes} bytes: each is {ON} where it is on, else {OFF}", "dectcem. 1049. decawm",
+        "is shown, in {ansi_style} bytes", "from bold on each is {ON} or {OFF}.. {OFF}. how much of a character", "of a screen shows, in {ansi_cell} bytes", "each link (osc 8) since the last reset; {NO_LINK} for none",
+        "{GOES_ON} in the last cell of a row from which autowrap went on to the next: both are one line. {OFF}.", "modes, in {ansi_modes} bytes: each is {ON} where it is on, else {OFF}", "dectcem. 1049. decawm",
         *MODES_ASKED, "1004: the focus", "2004: what is pasted", "2026: what is shown", SHAPES + ". {OFF}.", "5, where num lock is off", "a function key, 1 to 24",
         "a key, in {ansi_key} bytes", "that is known; else 0", "the mouse does, in {ansi_mouse} bytes", "columns, rows and pixels count from 0", BUTTONS, "and at most {MAX_TEXT} bytes",
         "they answer true, and written is 0", "answers false, and written is 0, where the text", "where gained is 0",
@@ -88,7 +88,7 @@ PHRASES = {
         "has bytes from {LOWEST} to {HIGHEST} alone", "the last {LINKS} links that began are kept", "it answers true, and written is 0",
         "is {ANY_STYLING} for light and dark pages, {LIGHT} for light ones, {DARK} for dark ones, and {CLASSES} for classes", "any other number is {ANY_STYLING}", "where ed 2, ed 0 at its first cell or ris",
         "the oldest has the number {FIRST}", "ansi_cell has, in {ansi_cell} bytes", "marks[{MOST_MARKS}]", "of its link (osc 8)", "takes; {NO_LINK} for none", "mark_count\" 0, 1 or {MOST_MARKS}.",
-        "goes_on\" {GOES_ON} in the last cell", "one line; else 0", "ansi_style has, in {ansi_style} bytes", "on are {ON} or {OFF}", "the first is 0 to 7: black", "number of one of xterm's 256",
+        "goes_on\" {GOES_ON} in the last cell", "one line; else 0. \"uint8_t reserved[{RESERVED_CELL}]\" 0", "\"uint8_t reserved[{RESERVED_STYLE}]\" 0", "ansi_style has, in {ansi_style} bytes", "on are {ON} or {OFF}", "the first is 0 to 7: black", "number of one of xterm's 256",
         *('%s" sgr {%s}' % (name, name) for name in screen_cells.ATTRIBUTES), "ansi_color has, in {ansi_color} bytes", "values[3]", "each {ON} where it is on, else {OFF}",
         "ansi_modes has, in {ansi_modes} bytes", "screen shows (1049)", "lines are counted from the upper margin", "reserved[{RESERVED_MODES}]\" 0",
         *MODES_ASKED, SHAPES, "focus is told (1004)", "in brackets (2004)", "this ends (2026)", "gained is 0", "ansi_key has, in {ansi_key} bytes", "ansi_mouse has, in {ansi_mouse} bytes",
@@ -127,7 +127,7 @@ CONSTANTS = {
     "event_pieces/src/event": ["MAX_INTERMEDIATES"], "html_pieces/src/state": ["MAX_LINK"], "html_pieces/src/feeding": ["CAPACITY", "MOST_TAKEN"],
     "screen_html/src/table": ["MOST_KEPT"], "screen_draw/src/updates": ["PIECE"], "screen_text/src/recording": ["MOST_FRONT"], "ansi2html/src/words": ["MOST_OF_A_TAG"], "ansi_html/src/block": ["LINES_A_BLOCK"],
     "command_line/src/lib": ["FAILED", "MISUSED", "READER_GONE"], "ansi_screen/src/size": ["MIN_COLUMNS", "MAX_COLUMNS", "MIN_ROWS", "MAX_ROWS"],
-    "screen_pieces/src/modes": ["RESERVED_MODES"], "screen_pieces/src/parts": ["RESERVED_PLACE"], "ansi_modes/src/text": ["MAX_TEXT"], "ansi_answers/src/waiting": ["MAX_WAITING"], "ansi_screen_c/src/history": ["RESERVED_OPTIONS"], "ansi_html/src/spare": ["BYTE_EARNS", "FEED_COUNTS"],
+    "screen_pieces/src/cell": ["RESERVED_CELL"], "screen_pieces/src/style": ["RESERVED_STYLE"], "screen_pieces/src/modes": ["RESERVED_MODES"], "screen_pieces/src/parts": ["RESERVED_PLACE"], "ansi_modes/src/text": ["MAX_TEXT"], "ansi_answers/src/waiting": ["MAX_WAITING"], "ansi_screen_c/src/history": ["RESERVED_OPTIONS"], "ansi_html/src/spare": ["BYTE_EARNS", "FEED_COUNTS"],
 }  # fmt: skip
 PLAIN = ["PIECE", "MOST_FRONT", "MAX_COLUMNS", "MAX_ROWS", "ansi_colors"]  # which stand there with no commas
 

@@ -63,6 +63,7 @@ struct StyleBytes {
     background: ColorBytes,
     underline: u8,
     attributes: [u8; 8],
+    reserved: [u8; 8],
 }
 
 #[repr(C)]
@@ -75,6 +76,7 @@ struct CellBytes {
     mark_count: u8,
     part: u8,
     goes_on: u8,
+    reserved: [u8; 8],
 }
 
 #[repr(C)]

@@ -14,7 +14,7 @@ mod parts;
 mod same;
 mod text;
 
-ghost use Rattle.std.specs.Prelude.{◌≡◌, ◌<◌, ◌≤◌, ◌⊎◌, None, Some, IfSome, length};
+ghost use Rattle.std.specs.Prelude.{◌≡◌, ◌<◌, ◌≤◌, ◌⊎◌, None, Some, IfSome, length, replicate};
 ghost use Rattle.std.specs.Bool.{OnTrue, OnFalse};
 ghost use Rattle.ansi_style.specs.Bytes.{style_of};
 ghost use Rattle.screen_pieces.specs.Terminal.{IsNew, Feeds, Begins, HasCell, HasRow, display_of, asked_of};
@@ -24,7 +24,7 @@ ghost use Rattle.ansi_screen_c.specs.Calls.{Opens, Both, Holds, IsNoneOr};
 
 use ansi_screen::{MAX_COLUMNS, MAX_ROWS, MIN_COLUMNS, MIN_ROWS};
 use handle::Handle;
-use screen_pieces::{CellBytes, ModeBytes, StyleBytes, Terminal};
+use screen_pieces::{CellBytes, ModeBytes, StyleRecord, Terminal};
 use std::alloc::Global;
 
 /// Whether a screen may have so many columns and rows.
@@ -191,10 +191,11 @@ pub extern "C" fn ansi_screen_cursor(
 pub extern "C" fn ansi_screen_style(
     alloc: Global,
     screen: &mut Handle,
-    style: &mut StyleBytes,
+    style: &mut StyleRecord,
 ) -> bool
     ensures style { OnTrue result
-        (Holds (λ terminal. style_of style.new ≡ (display_of terminal).cursor.style) screen.old.value) }
+        (Holds (λ terminal. style_of style.new.bytes ≡ (display_of terminal).cursor.style) screen.old.value) }
+    ensures reserved { OnTrue result (style.new.reserved ≡ replicate 8 0) }
     ensures kept { screen.new.value ≡ screen.old.value }
     ensures refused { OnFalse result (style.new ≡ style.old) }
     ensures none { OnFalse result (screen.old.value ≡ None) }

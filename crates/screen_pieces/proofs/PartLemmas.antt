@@ -1,12 +1,14 @@
 -- A part of the cells more is written to its place in the room.
-use Rattle.std.proofs.Common.{◌≡◌, ℕ, ◌+◌, ◌≤◌, List, ◌++◌, length, take, drop, map, sym, ap, ◌∙◌, arith}
+use Rattle.std.proofs.Common.{◌≡◌, ℕ, ◌+◌, ◌≤◌, List, ◌++◌, length, take, drop, map, sym, ap, ◌∙◌, subst, arith}
 use Rattle.std.proofs.lemmas.List.{map-append, length-take-le, length-drop, take_all}
+use Rattle.std.proofs.lemmas.List.Elements.{All-append}
 use Rattle.std.proofs.lemmas.Slice.{take-put_mid, drop-put_mid}
 use Rattle.std.proofs.Math.Seq.{take-add}
 use borrow.Rule.Slice.PartMut.{put_mid}
 use Rattle.ansi_screen.specs.declared.cell.Cell.{Cell}
 use Rattle.screen_pieces.specs.declared.cell.CellBytes.{CellBytes}
-use Rattle.screen_pieces.specs.Cells.{cell_in}
+use Rattle.std.specs.List.{All}
+use Rattle.screen_pieces.specs.Cells.{cell_in, KeepsForLater}
 
 module _ (n m end : ℕ) (room part : List CellBytes) (cells : List Cell)
     (ends : end ≡ n + m) (fits : end ≤ length cells) (inside : end ≤ length room)
@@ -28,6 +30,16 @@ module _ (n m end : ℕ) (room part : List CellBytes) (cells : List Cell)
         ∙ ap (λ xs. take n cells ++ xs) whole
         ∙ sym (take-add n m cells)
         ∙ ap (λ e. take e cells) (sym ends)
+
+    -- and of these too what is kept for later is 0
+    pub reserved-more : All KeepsForLater (take n room) → All KeepsForLater (take (length (take m (drop n cells))) part)
+        → All KeepsForLater (take end (put_mid n m room part))
+    reserved-more before now =
+        let count : length (take m (drop n cells)) ≡ m = length-take-le m (drop n cells) (omega (arith, length-drop n cells, ends, fits)) in
+        let whole : All KeepsForLater part =
+        subst (λ (l : List CellBytes). All KeepsForLater l) (take_all (length (take m (drop n cells))) part (omega (arith, count, long))) now in
+        subst (λ (l : List CellBytes). All KeepsForLater l) (sym (take-put_mid n m room part end (omega (arith, ends, long)) (omega (arith, ends, inside))))
+        (All-append KeepsForLater (take n room) part before whole)
 
     pub rest-same : (past : ℕ) → end ≤ past → drop past (put_mid n m room part) ≡ drop past room
     rest-same past behind = drop-put_mid n m room part past (omega (arith, ends, behind)) (omega (arith, ends, inside)) long

@@ -1,5 +1,5 @@
 -- What the bytes of a cell say.
-use Rattle.std.specs.Prelude.{◌≡◌, ◌≤◌, ℕ, ◌==◌, if◌then◌else◌}
+use Rattle.std.specs.Prelude.{◌≡◌, ◌≤◌, ℕ, ◌==◌, replicate, if◌then◌else◌}
 use Rattle.ansi_style.specs.declared.style.Color.TheVariants.{Default}
 use Rattle.ansi_screen.specs.declared.cell.Cell.{Cell}
 use Rattle.ansi_screen.specs.declared.cell.Part.{Part}
@@ -26,7 +26,12 @@ cell_in bytes = record {
   character = bytes.character;
   link = bytes.link;
   marks = marks_of bytes.mark_count bytes.first_mark bytes.second_mark;
-  style = style_of bytes.style;
+  style = style_of bytes.style.bytes;
   part = part_of bytes.part;
   goes_on = is_set bytes.goes_on;
 }
+
+-- What is kept for later is 0: eight bytes of its style, and eight of its own.
+pub record KeepsForLater (bytes : CellBytes) : Type 0 where
+  pub style : bytes.style.reserved ≡ replicate 8 0
+  pub cell : bytes.reserved ≡ replicate 8 0

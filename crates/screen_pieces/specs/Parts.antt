@@ -1,7 +1,8 @@
 -- What decides on a screen beside what shows: the cursor's place and those that are saved, tab stops and hidden rows.
 --
 -- Sources: the VT510 manual (DECSC, DECSTBM, HTS, TBC); xterm's ctlseqs (1049).
-use Rattle.std.specs.Prelude.{◌≡◌, ◌<◌, ◌≤◌, ◌⊎◌, ◌*◌, ◌&&◌, ◌==◌, ℕ, Bool, true, false, Option, None, Some, List, take, drop, map, if◌then◌else◌}
+use Rattle.std.specs.Prelude.{◌≡◌, ◌<◌, ◌≤◌, ◌⊎◌, ◌*◌, ◌&&◌, ◌==◌, ℕ, true, false, Option, None, Some, List, take, drop, map, replicate, if◌then◌else◌}
+use Rattle.std.specs.List.{All}
 use Rattle.ansi_style.specs.Bytes.{style_of, is_set}
 use Rattle.ansi_screen.specs.declared.cell.Cell.{Cell}
 use Rattle.ansi_screen.specs.declared.place.Place.{Place}
@@ -9,7 +10,7 @@ use Rattle.ansi_screen.specs.Display.{Display}
 use Rattle.screen_pieces.specs.declared.cell.CellBytes.{CellBytes}
 use Rattle.screen_pieces.specs.declared.parts.PlaceBytes.{PlaceBytes}
 use Rattle.screen_pieces.specs.declared.terminal.Terminal.{Terminal}
-use Rattle.screen_pieces.specs.Cells.{cell_in}
+use Rattle.screen_pieces.specs.Cells.{cell_in, KeepsForLater}
 use Rattle.screen_pieces.specs.Terminal.{display_of}
 
 -- the place that bytes say; any say one
@@ -17,7 +18,7 @@ abbrev pub place_in : PlaceBytes → Place
 place_in bytes = record {
   row = bytes.row;
   column = bytes.column;
-  style = style_of bytes.style;
+  style = style_of bytes.style.bytes;
   is_relative = is_set bytes.has_origin;
   charsets = record {
     g0_draws = is_set bytes.g0_draws;
@@ -35,10 +36,13 @@ place_numbered which d =
     else if which == 2 && d.is_alternate then Some d.hidden_saved
     else None
 
--- These are the bytes of the place of a number. A wrap is pending where its column is the number of columns.
+-- These are the bytes of the place of a number. A wrap is pending where its column is the number of columns. What is kept
+-- for later is 0.
 pub record HasPlace (which : ℕ) (bytes : PlaceBytes) (terminal : Terminal) : Type 0 where
   pub place : place_numbered which (display_of terminal) ≡ Some (place_in bytes)
   pub pending : is_set bytes.wrap_pending ≡ (bytes.column == (display_of terminal).width)
+  pub style : bytes.style.reserved ≡ replicate 8 0
+  pub reserved : bytes.reserved ≡ replicate 2 0
 
 -- A byte for each column stands at the front of the room, which is set where a tab stops; the rest is as it was.
 pub record HasStops (room room_after : List ℕ) (terminal : Terminal) : Type 0 where
@@ -55,6 +59,7 @@ pub record HasHiddenRow (row : ℕ) (room room_after : List CellBytes) (terminal
   pub hidden : (display_of terminal).is_alternate ≡ true
   pub within : row < (display_of terminal).height
   pub cells : map cell_in (take (display_of terminal).width room_after) ≡ hidden_cells row (display_of terminal)
+  pub reserved : All KeepsForLater (take (display_of terminal).width room_after)
   pub untouched : drop (display_of terminal).width room_after ≡ drop (display_of terminal).width room
 
 -- No screen is hidden, or it has no such row.

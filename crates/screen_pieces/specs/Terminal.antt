@@ -1,5 +1,5 @@
 -- A screen that takes its stream in pieces.
-use Rattle.std.specs.List.{flat_map}
+use Rattle.std.specs.List.{All, flat_map}
 use Rattle.std.specs.Prelude.{◌≡◌, ◌<◌, ◌≤◌, ℕ, Bool, Some, List, [], ◌++◌, length, take, drop, map, slice_index_or}
 use Rattle.ansi_style.specs.Style.{plain}
 use Rattle.anstyle_parse.specs.Stream.Call.{Call}
@@ -30,7 +30,7 @@ use Rattle.screen_html.specs.Links.{Kept as KeptLink, Table, no_links}
 use Rattle.screen_html.specs.Page.{all_links}
 use Rattle.screen_pieces.specs.declared.cell.CellBytes.{CellBytes}
 use Rattle.screen_pieces.specs.declared.terminal.Terminal.{Terminal}
-use Rattle.screen_pieces.specs.Cells.{cell_in}
+use Rattle.screen_pieces.specs.Cells.{cell_in, KeepsForLater}
 use Rattle.screen_pieces.specs.History.{nothing_yet, kept_of, kept_row, KeepsLeft}
 
 abbrev pub screen_of : Terminal → State
@@ -183,22 +183,25 @@ pub record IsNew (columns rows history : ℕ) (keeps_erased : Bool) (terminal : 
 abbrev pub cell_of : (row column : ℕ) → Display → Cell
 cell_of row column d = slice_index_or (row_cells row d) column (blank plain)
 
--- These are the bytes of a cell within the screen.
+-- These are the bytes of a cell within the screen. Of each cell that is told, what is kept for later is 0.
 pub record HasCell (row column : ℕ) (bytes : CellBytes) (terminal : Terminal) : Type 0 where
   pub row_within : row < (display_of terminal).height
   pub column_within : column < (display_of terminal).width
   pub cell : cell_in bytes ≡ cell_of row column (display_of terminal)
+  pub reserved : KeepsForLater bytes
 
 -- The cells of a row stand at the front of the room; the rest is as it was.
 pub record HasRow (row : ℕ) (room room_after : List CellBytes) (terminal : Terminal) : Type 0 where
   pub within : row < (display_of terminal).height
   pub cells : map cell_in (take (display_of terminal).width room_after) ≡ row_cells row (display_of terminal)
+  pub reserved : All KeepsForLater (take (display_of terminal).width room_after)
   pub untouched : drop (display_of terminal).width room_after ≡ drop (display_of terminal).width room
 
 -- The cells of a row that is kept stand at the front of the room; the rest is as it was.
 pub record HasKeptRow (number : ℕ) (room room_after : List CellBytes) (kept : Kept) : Type 0 where
   pub within : number < length kept.rows
   pub cells : map cell_in (take (length (kept_row number kept)) room_after) ≡ kept_row number kept
+  pub reserved : All KeepsForLater (take (length (kept_row number kept)) room_after)
   pub untouched : drop (length (kept_row number kept)) room_after ≡ drop (length (kept_row number kept)) room
 
 -- Of a row within the screen the columns from one up to another can have changed: the others have the cells that they

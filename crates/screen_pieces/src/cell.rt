@@ -3,14 +3,18 @@ ghost use Rattle.std.specs.Prelude.{◌≡◌, ◌≤◌, length, take, drop, ma
 ghost use Rattle.std.specs.List.{All};
 ghost use Rattle.std.specs.Bool.{OnTrue, OnFalse};
 ghost use Rattle.ansi_screen.specs.declared.cell.Marks.TheVariants.{Unmarked};
-ghost use Rattle.screen_pieces.specs.Cells.{cell_in, part_of, marks_of, IsPlain};
+ghost use Rattle.screen_pieces.specs.Cells.{cell_in, part_of, marks_of, IsPlain, KeepsForLater};
 ghost use Rattle.ansi_style.specs.Bytes.{color_of, kind_of};
 
+use crate::style::StyleRecord;
 use ansi_screen::{Cell, Marks, Part};
 use ansi_style::bytes::{ColorBytes, StyleBytes, flag, kind_number};
 
 /// How many cells are looked at together.
 const FEW: usize = 10;
+
+/// How many bytes of a cell are kept for later, as for two more marks: they are 0.
+pub const RESERVED_CELL: usize = 8;
 
 /// The last of the kinds of colours that have a number at most.
 const NUMBERED: u8 = 3;
@@ -26,13 +30,14 @@ pub struct CellBytes {
     pub second_mark: u32,
     /// The number of its link (OSC 8); 0 for none.
     pub link: u32,
-    pub style: StyleBytes,
+    pub style: StyleRecord,
     /// 0, 1 or 2.
     pub mark_count: u8,
     /// 0 where nothing was printed, 1 a whole character, 2 the left half of a wide one, 3 its right half.
     pub part: u8,
     /// 1 where autowrap went on from it to the next row, else 0.
     pub goes_on: u8,
+    pub reserved: [u8; RESERVED_CELL],
 }
 
 /// The number of a part.
@@ -61,7 +66,8 @@ fn mark_numbers(marks: Marks) -> (u8, u32, u32)
 impl CellBytes {
     /// The bytes of a cell.
     pub fn of(cell: Cell) -> CellBytes
-        ensures { cell_in result ≡ cell }
+        ensures cell { cell_in result ≡ cell }
+        ensures reserved { KeepsForLater result }
     {
         let (mark_count, first_mark, second_mark) = mark_numbers(cell.marks);
         CellBytes {
@@ -69,10 +75,11 @@ impl CellBytes {
             first_mark,
             second_mark,
             link: cell.link,
-            style: StyleBytes::of(cell.style),
+            style: StyleRecord::of(StyleBytes::of(cell.style)),
             mark_count,
             part: part_number(cell.part),
             goes_on: u8::from(cell.goes_on),
+            reserved: [0; RESERVED_CELL],
         }
     }
 }
@@ -103,17 +110,19 @@ fn beside(cell: &Cell) -> u8
 fn with_foreground(cell: &Cell, foreground: ColorBytes) -> CellBytes
     requires plain { IsPlain 3 cell.now }
     requires foreground { color_of foreground ≡ cell.now.style.foreground }
-    ensures { cell_in result ≡ cell.now }
+    ensures cell { cell_in result ≡ cell.now }
+    ensures reserved { KeepsForLater result }
 {
     CellBytes {
         character: u32::from(cell.character),
         first_mark: 0,
         second_mark: 0,
         link: cell.link,
-        style: StyleBytes::with(&cell.style, foreground, ColorBytes::own()),
+        style: StyleRecord::of(StyleBytes::with(&cell.style, foreground, ColorBytes::own())),
         mark_count: 0,
         part: part_number(cell.part),
         goes_on: flag(cell.goes_on),
+        reserved: [0; RESERVED_CELL],
     }
 }
 
@@ -122,6 +131,7 @@ fn with_foreground(cell: &Cell, foreground: ColorBytes) -> CellBytes
 #[inline(always)]
 pub(crate) fn put_plain(cell: &Cell, room: &mut CellBytes) -> bool
     ensures written { OnTrue result (cell_in room.new ≡ cell.now) }
+    ensures reserved { OnTrue result (KeepsForLater room.new) }
     ensures refused { OnFalse result (room.new ≡ room.old) }
 {
     let kind = kind_number(&cell.style.foreground);
@@ -143,27 +153,30 @@ pub(crate) fn put_plain(cell: &Cell, room: &mut CellBytes) -> bool
 #[cold]
 #[inline(never)]
 fn put_any(cell: &Cell, room: &mut CellBytes)
-    ensures { cell_in room.new ≡ cell.now }
+    ensures cell { cell_in room.new ≡ cell.now }
+    ensures reserved { KeepsForLater room.new }
 {
     let (mark_count, first_mark, second_mark) = mark_numbers(cell.marks);
     room.first_mark = first_mark;
     room.second_mark = second_mark;
     room.mark_count = mark_count;
-    room.style = StyleBytes::with(
+    room.style = StyleRecord::of(StyleBytes::with(
         &cell.style,
         ColorBytes::of(cell.style.foreground),
         ColorBytes::of(cell.style.background),
-    );
+    ));
     room.character = u32::from(cell.character);
     room.link = cell.link;
     room.part = part_number(cell.part);
     room.goes_on = flag(cell.goes_on);
+    room.reserved = [0; RESERVED_CELL];
 }
 
 /// Writes the bytes of a cell.
 #[inline(always)]
 pub(crate) fn put_cell(cell: &Cell, room: &mut CellBytes)
-    ensures { cell_in room.new ≡ cell.now }
+    ensures cell { cell_in room.new ≡ cell.now }
+    ensures reserved { KeepsForLater room.new }
 {
     if !put_plain(cell, room) {
         put_any(cell, room);
@@ -191,6 +204,7 @@ fn put_bare(cells: &[Cell], room: &mut [CellBytes])
     requires bare { All (IsPlain 0) cells.now }
     requires room { length cells.now ≤ length room.old }
     ensures written { map cell_in (take (length cells.now) room.new) ≡ cells.now }
+    ensures reserved { All KeepsForLater (take (length cells.now) room.new) }
     ensures rest { drop (length cells.now) room.new ≡ drop (length cells.now) room.old }
 {
     for (place, cell) in cells.iter().enumerate() {
@@ -205,6 +219,7 @@ fn put_numbered(cells: &[Cell], room: &mut [CellBytes])
     requires plain { All (IsPlain 3) cells.now }
     requires room { length cells.now ≤ length room.old }
     ensures written { map cell_in (take (length cells.now) room.new) ≡ cells.now }
+    ensures reserved { All KeepsForLater (take (length cells.now) room.new) }
     ensures rest { drop (length cells.now) room.new ≡ drop (length cells.now) room.old }
 {
     for (place, cell) in cells.iter().enumerate() {
@@ -218,6 +233,7 @@ fn put_numbered(cells: &[Cell], room: &mut [CellBytes])
 fn put_each(cells: &[Cell], room: &mut [CellBytes])
     requires { length cells.now ≤ length room.old }
     ensures written { map cell_in (take (length cells.now) room.new) ≡ cells.now }
+    ensures reserved { All KeepsForLater (take (length cells.now) room.new) }
     ensures rest { drop (length cells.now) room.new ≡ drop (length cells.now) room.old }
 {
     for (place, cell) in cells.iter().enumerate() {
@@ -230,6 +246,7 @@ fn put_each(cells: &[Cell], room: &mut [CellBytes])
 fn put_few(cells: &[Cell], room: &mut [CellBytes])
     requires { length cells.now ≤ length room.old }
     ensures written { map cell_in (take (length cells.now) room.new) ≡ cells.now }
+    ensures reserved { All KeepsForLater (take (length cells.now) room.new) }
     ensures rest { drop (length cells.now) room.new ≡ drop (length cells.now) room.old }
 {
     let (others, most) = kinds(cells);
@@ -246,6 +263,7 @@ fn put_few(cells: &[Cell], room: &mut [CellBytes])
 pub(crate) fn put_cells(cells: &[Cell], room: &mut [CellBytes])
     requires { length cells.now ≤ length room.old }
     ensures written { map cell_in (take (length cells.now) room.new) ≡ cells.now }
+    ensures reserved { All KeepsForLater (take (length cells.now) room.new) }
     ensures rest { drop (length cells.now) room.new ≡ drop (length cells.now) room.old }
 {
     let mut done = 0;

@@ -16,15 +16,17 @@ mod palette;
 mod parts;
 mod reading;
 mod same;
+mod style;
 mod telling;
 mod terminal;
 mod text;
 
 pub use ansi_style::bytes::{ColorBytes, StyleBytes};
 pub use answers::{RgbBytes, ThemeBytes};
-pub use cell::CellBytes;
+pub use cell::{CellBytes, RESERVED_CELL};
 pub use keys::{KeyBytes, MouseBytes};
 pub use modes::{ModeBytes, RESERVED_MODES};
 pub use palette::color_rgb;
 pub use parts::{PlaceBytes, RESERVED_PLACE};
+pub use style::{RESERVED_STYLE, StyleRecord};
 pub use terminal::Terminal;

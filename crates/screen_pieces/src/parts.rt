@@ -1,11 +1,12 @@
 //! What decides on a screen beside what shows, as plain records: the cursor's place and those that are saved, margins, tab
 //! stops and hidden rows.
-ghost use Rattle.std.specs.Prelude.{◌≡◌, ◌<◌, ◌≤◌, ◌⊎◌, ◌==◌, None, length, take, drop, map, IfSome, IfNone};
+ghost use Rattle.std.specs.Prelude.{◌≡◌, ◌<◌, ◌≤◌, ◌⊎◌, ◌==◌, None, length, take, drop, map, replicate, IfSome, IfNone};
 ghost use Rattle.std.specs.Bool.{OnTrue, OnFalse};
 ghost use Rattle.ansi_style.specs.Bytes.{is_set};
 ghost use Rattle.screen_pieces.specs.Parts.{place_in, place_numbered, HasPlace, HasStops, HasHiddenRow, LacksHidden};
 
 use crate::cell::{CellBytes, put_cells};
+use crate::style::StyleRecord;
 use crate::terminal::Terminal;
 use ansi_screen::{Place, Screen};
 use ansi_style::bytes::{StyleBytes, flag};
@@ -20,7 +21,7 @@ pub struct PlaceBytes {
     pub row: usize,
     pub column: usize,
     /// The style of what comes next.
-    pub style: StyleBytes,
+    pub style: StyleRecord,
     /// Lines are counted from the upper margin (DECOM). `row` counts from the screen's first row.
     pub has_origin: u8,
     /// The last column was printed, and a wrap is pending: the column is the number of columns.
@@ -38,11 +39,13 @@ impl PlaceBytes {
     fn of(place: Place, columns: usize) -> PlaceBytes
         ensures place { place_in result ≡ place }
         ensures pending { is_set result.wrap_pending ≡ (result.column == columns) }
+        ensures style { result.style.reserved ≡ replicate 8 0 }
+        ensures reserved { result.reserved ≡ replicate 2 0 }
     {
         PlaceBytes {
             row: place.row,
             column: place.column,
-            style: StyleBytes::of(place.style),
+            style: StyleRecord::of(StyleBytes::of(place.style)),
             has_origin: flag(place.is_relative),
             wrap_pending: flag(place.column == columns),
             g0_draws: flag(place.charsets.g0_draws),

@@ -1,5 +1,5 @@
 //! What a screen shows, as plain records and as text.
-ghost use Rattle.std.specs.Prelude.{◌≡◌, ◌<◌, ◌≤◌, ◌⊎◌, length, IfOk, IfErr, IfSome, IfNone};
+ghost use Rattle.std.specs.Prelude.{◌≡◌, ◌<◌, ◌≤◌, ◌⊎◌, length, replicate, IfOk, IfErr, IfSome, IfNone};
 ghost use Rattle.std.specs.Bool.{OnTrue, OnFalse};
 ghost use Rattle.ansi_screen.specs.Text.{row_text, text_of};
 ghost use Rattle.ansi_style.specs.Bytes.{style_of};
@@ -8,6 +8,7 @@ ghost use Rattle.screen_pieces.specs.History.{kept_row, text_of_kept, LacksKept}
 
 use crate::cell::{CellBytes, put_cell, put_cells, put_plain};
 use crate::modes::ModeBytes;
+use crate::style::StyleRecord;
 use crate::terminal::Terminal;
 use crate::text::TextWriter;
 use ansi_screen::Cell;
@@ -47,10 +48,11 @@ impl Terminal {
     }
 
     /// The style of what comes next.
-    pub fn style(&self) -> StyleBytes
-        ensures { style_of result ≡ (display_of self.now).cursor.style }
+    pub fn style(&self) -> StyleRecord
+        ensures style { style_of result.bytes ≡ (display_of self.now).cursor.style }
+        ensures reserved { result.reserved ≡ replicate 8 0 }
     {
-        StyleBytes::of(self.screen().cursor().style)
+        StyleRecord::of(StyleBytes::of(self.screen().cursor().style))
     }
 
     /// Its modes, and what was asked for.

@@ -78,12 +78,13 @@ class ColorBytes(ctypes.Structure):
 
 class StyleBytes(ctypes.Structure):
     _fields_ = [("foreground", ColorBytes), ("background", ColorBytes), ("underline", ctypes.c_ubyte)]
-    _fields_ += [(name, ctypes.c_ubyte) for name in ATTRIBUTES]
+    _fields_ += [(name, ctypes.c_ubyte) for name in ATTRIBUTES] + [("reserved", ctypes.c_ubyte * 8)]
 
 
 class CellBytes(ctypes.Structure):
     _fields_ = [("character", ctypes.c_uint32), ("marks", ctypes.c_uint32 * 2), ("link", ctypes.c_uint32)]
     _fields_ += [("style", StyleBytes), ("mark_count", ctypes.c_ubyte), ("part", ctypes.c_ubyte), ("goes_on", ctypes.c_ubyte)]
+    _fields_ += [("reserved", ctypes.c_ubyte * 8)]
 
 
 class ModeBytes(ctypes.Structure):

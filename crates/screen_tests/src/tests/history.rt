@@ -3,7 +3,7 @@ use super::{Put, assert_counts, assert_same, fed, feed, reset};
 use ansi_screen::{Cell, History, Screen};
 use anstyle_parse::Perform;
 use screen_pieces::laws::{changes_are_told, copies_stand, rows_are_whole};
-use screen_pieces::{CellBytes, Terminal};
+use screen_pieces::{CellBytes, RESERVED_CELL, RESERVED_STYLE, Terminal};
 use std::alloc::{AllocError, AllocGlobal, Global};
 use std::process::Abort;
 use std::test::Fail;
@@ -114,10 +114,17 @@ fn assert_put(
     assert_same(rt, &terminal.put_history_row(number, room), &wanted);
 }
 
+/// What is reserved of a cell is 0.
+fn assert_reserved(rt: &impl Abort, cell: CellBytes) {
+    assert_same(rt, &cell.reserved, &[0; RESERVED_CELL]);
+    assert_same(rt, &cell.style.reserved, &[0; RESERVED_STYLE]);
+}
+
 /// The second cell of a room is d in bold, and with the fourth the row goes on.
 fn assert_goes_on(rt: &impl Abort, room: &[CellBytes; 5]) {
-    let told = (room[1].character, room[1].style.bold, room[3].goes_on);
+    let told = (room[1].character, room[1].style.bytes.bold, room[3].goes_on);
     assert_same(rt, &told, &(0x64, 1, 1));
+    assert_reserved(rt, room[1]);
 }
 
 /// The cells of the third row that is kept.

@@ -2,7 +2,9 @@
 //! pages; and xterm's colours.
 use super::{assert_same, fed};
 use ansi_html::contrast::Rgb;
-use screen_pieces::{CellBytes, PlaceBytes, RESERVED_PLACE, StyleBytes, Terminal, color_rgb};
+use screen_pieces::{
+    CellBytes, PlaceBytes, RESERVED_PLACE, StyleBytes, StyleRecord, Terminal, color_rgb,
+};
 use std::alloc::{AllocError, AllocGlobal, Global};
 use std::process::Abort;
 use std::test::Fail;
@@ -20,7 +22,10 @@ fn told(terminal: &Terminal, which: u8) -> Option<Told> {
     let PlaceBytes {
         row,
         column,
-        style: StyleBytes { bold, .. },
+        style: StyleRecord {
+            bytes: StyleBytes { bold, .. },
+            ..
+        },
         has_origin,
         wrap_pending,
         g0_draws,

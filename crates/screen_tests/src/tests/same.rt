@@ -117,7 +117,7 @@ fn updates(rt: HostRuntime) -> Result<(), Fail> {
 
 /// The kind of the colour in which a screen writes.
 fn assert_kind(rt: &impl Abort, terminal: &Terminal, kind: u8) {
-    assert_same(rt, &terminal.style().foreground.kind, &kind);
+    assert_same(rt, &terminal.style().bytes.foreground.kind, &kind);
 }
 
 /// A copy of a screen that stands within a sequence, and what each shows of the rest.

@@ -1,6 +1,8 @@
 //! A screen that takes its stream in pieces.
 use super::{Put, assert_same, assert_text, feed, reset};
-use screen_pieces::{CellBytes, ColorBytes, ModeBytes, RESERVED_MODES, StyleBytes, Terminal};
+use screen_pieces::{
+    CellBytes, ColorBytes, ModeBytes, RESERVED_MODES, StyleBytes, StyleRecord, Terminal,
+};
 use std::alloc::{AllocError, Global};
 use std::process::Abort;
 use std::test::Fail;
@@ -20,7 +22,10 @@ fn cell(terminal: &Terminal, row: usize, column: usize) -> (u32, u8, u8) {
             CellBytes {
                 character,
                 part,
-                style: StyleBytes { foreground, .. },
+                style: StyleRecord {
+                    bytes: StyleBytes { foreground, .. },
+                    ..
+                },
                 ..
             },
         ) => {
@@ -109,7 +114,7 @@ fn rows(rt: HostRuntime) -> Result<(), Fail> {
 fn assert_sized(rt: &impl Abort, terminal: &Terminal, colour: [u8; 3]) {
     assert_same(rt, &terminal.size(), &(4, 3));
     assert_same(rt, &terminal.cursor(), &(0, 3));
-    assert_same(rt, &terminal.style().foreground.values, &colour);
+    assert_same(rt, &terminal.style().bytes.foreground.values, &colour);
 }
 
 /// The cells of a row, and outside; the size, the cursor and the style.

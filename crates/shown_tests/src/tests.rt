@@ -59,11 +59,7 @@ fn safe(rt: HostRuntime) -> Result<(), Fail> {
 fn html(rt: HostRuntime) -> Result<(), Fail> {
     let mut log = begun(rt.alloc(), form_at(2, 3));
     assert_fed(&rt, &mut log, b"\x1b[1m<");
-    assert_shown(
-        &rt,
-        &mut log,
-        b"<span class=\"ansi-bold\">&lt;</span>\n",
-    );
+    assert_shown(&rt, &mut log, b"<span class=\"ansi-bold\">&lt;</span>\n");
     Ok(())
 }
 

@@ -26,7 +26,7 @@ TESTS = asked browser cells classes contrast costs dist documents install librar
 # those that want what is proved: they count instructions, or make what is handed out
 PROVED = costs cells dist
 # what the library does: each has a header and a manual page of its own
-INTERFACES = ansi_events ansi_html ansi_safe ansi_screen ansi_strip
+INTERFACES = ansi_events ansi_html ansi_safe ansi_screen ansi_shown ansi_strip
 # the functions that a manual page names: by each of them `man` finds that page
 FUNCTIONS_OF = sed -n 's/^\.Nm \(ansi_[a-z_]*\).*/\1/p'
 VERSION := $(shell sed -n 's/^pub const VERSION: &str = "\(.*\)";$$/\1/p' crates/command_line/src/options.rt)
@@ -122,7 +122,7 @@ $(SCREEN_ARCHIVE): $(SOURCES)
 	@$(HAS_KIT)
 	cd crates/ansi_screen_c && rt lib
 	room=$@.$$$$ && mkdir -p $$room && cd $$room && ar x ../libansi_screen_c.a && ar x $(HEAP) heap.pic.o && ld -r -o made *.o && \
-	    objcopy --wildcard --keep-global-symbol='ansi_screen_*' made screen.o && rm -f made.a && ar rcs made.a screen.o && \
+	    objcopy --wildcard --keep-global-symbol='ansi_screen_*' --keep-global-symbol='ansi_shown_*' made screen.o && rm -f made.a && ar rcs made.a screen.o && \
 	    cd $(CURDIR) && mv $$room/made.a $@ && rm -r $$room
 
 $(SCREEN_SHARED): $(SCREEN_ARCHIVE)

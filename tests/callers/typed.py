@@ -20,10 +20,15 @@ text = ansi_proved.safe("a")
 data = ansi_proved.safe(b"a")
 text = ansi_proved.shown("a", 120, rows=40)
 data = ansi_proved.shown(b"a")
+data = ansi_proved.shown(b"a", safe=True)
+text = ansi_proved.shown_of(["a", "b"], 120, 40)
+data = ansi_proved.shown_of(open("log", "rb"), safe=True)
 text = ansi_proved.to_html("a", "classes")
+text = ansi_proved.to_html("a", shown=True)
 data = ansi_proved.to_html(b"a", styling="dark")
 text = ansi_proved.page("a", "light", title="A log", lang="de")
 data = ansi_proved.page(b"a")
+data = ansi_proved.page(b"a", shown=(80, 24))
 text = ansi_proved.stylesheet("dark")
 text = ansi_proved.strip(b"a")  # wrong
 data = ansi_proved.strip("a")  # wrong
@@ -37,6 +42,8 @@ data = ansi_proved.strip("a", lf=True)  # wrong
 ansi_proved.safe(5)  # wrong
 data = ansi_proved.safe("a")  # wrong
 ansi_proved.shown("a", "80")  # wrong
+ansi_proved.shown("a", 80, 24, True)  # wrong
+ansi_proved.to_html("a", shown=80)  # wrong
 data = ansi_proved.shown("a")  # wrong
 ansi_proved.to_html("a", "red")  # wrong
 ansi_proved.to_html("a", 1)  # wrong

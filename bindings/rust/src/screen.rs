@@ -18,6 +18,8 @@
 //! assert_eq!((screen.history_count(), screen.history_text(0).as_str()), (1, "one"));
 //! ```
 //!
+//! [`shown`] and [`ShownLog`] write what a screen showed of a whole log.
+//!
 //! It can't be resized: [`events`](crate::events) of the same bytes tell what asks for that.
 //!
 //! Its library takes memory by `malloc`: in [`Screen::new`], [`Screen::with_history`], [`Screen::with_scrolled_history`] and
@@ -27,12 +29,14 @@
 mod answers;
 mod keys;
 mod parts;
+mod shown;
 
 pub use answers::{Answers, Colors, Rgb};
 pub use keys::{
     Action, Asked, Button, Encoding, Event, Held, Key, Mouse, Move, Pad, Shape, Tracking, Wheel,
 };
 pub use parts::{color_rgb, Charsets, Saved};
+pub use shown::{shown, CannotShow, Form, ShownLog};
 
 use crate::Styling;
 use alloc::string::String;

@@ -3,6 +3,7 @@
 #![cfg(feature = "screen")]
 
 use ansi_proved::screen::{Action, Button, CannotOpen, Cell, Color, Encoding, Event, Held, Key, Mouse, Move, Pad, Part, Place, Screen, Shape, Style};
+use ansi_proved::screen::{shown, CannotShow, Form, ShownLog};
 use ansi_proved::screen::{Answers, Colors, Rgb, Tracking, Wheel};
 use ansi_proved::{to_html, Styling};
 use std::collections::HashSet;
@@ -283,4 +284,29 @@ fn no_screen_of_such_a_size() {
     }
     assert_eq!(Screen::with_history(10, 3, usize::MAX).unwrap_err(), CannotOpen);
     assert!(CannotOpen.to_string().contains("2 to 1000 columns"));
+}
+
+/// What a screen showed of a log is what `--shown` writes: rows worked by hand, in pieces of every size.
+#[test]
+fn shown_logs() {
+    let log = b"[COLUMNS=\"4\" LINES=\"2\"]\n10%\r\x1b[1mabcdef\xff\n<";
+    let text = "[COLUMNS=\"4\" LINES=\"2\"]\nabcdef\u{fffd}\n<\n";
+    assert_eq!(shown(b" 10%\r 50%\r100%\n", Form::Text).unwrap(), "100%\n");
+    for size in 1..=log.len() {
+        let mut shown = ShownLog::new(Form::Text).unwrap();
+        for piece in log.chunks(size) {
+            shown.feed(piece).unwrap();
+        }
+        assert_eq!(shown.end().unwrap(), text);
+    }
+    assert_eq!(shown("a\u{202e}".as_bytes(), Form::Safe).unwrap(), "a<U+202E>\n");
+    let html = "<span class=\"ansi-bold\">&lt;</span>\n";
+    assert_eq!(shown(b"\x1b[1m<", Form::Html(Styling::Classes)).unwrap(), html);
+    let mut small = ShownLog::with_size(Form::Text, 2, 1).unwrap();
+    small.feed(b"abc").unwrap();
+    assert_eq!(small.end().unwrap(), "abc\n");
+    for (columns, rows) in [(0, 0), (1, 1), (2, 0), (0, 1), (1001, 1), (2, 1001)] {
+        let opened = ShownLog::with_size(Form::Text, columns, rows);
+        assert_eq!(opened.err(), Some(CannotShow), "{columns}x{rows}");
+    }
 }

@@ -1,4 +1,5 @@
 pub mod Values
 pub mod HandleValues
+pub mod ShownValues
 pub mod FeedLemmas
 pub mod ToldLemmas

@@ -1,2 +1,4 @@
 pub mod Handle
 pub mod Calls
+pub mod ShownHandle
+pub mod ShownCalls

@@ -12,6 +12,8 @@ mod loose;
 mod page;
 mod parts;
 mod same;
+mod shown;
+mod shown_handle;
 mod text;
 
 ghost use Rattle.std.specs.Prelude.{◌≡◌, ◌<◌, ◌≤◌, ◌⊎◌, None, Some, IfSome, length, replicate};

@@ -3,7 +3,7 @@ r"""Terminal output as clean text, HTML, events or a screen, by a proved library
     strip(text)       the text, with no escapes: strip("\x1b[31mred\x1b[0m <b>") is "red <b>"
     strip(text, lf=True)    without a carriage return before a line feed: strip("one\r\n", lf=True) is "one\n"
     safe(text)        text that hides nothing: safe("\x1b[31ma\u202eb") is "a<U+202E>b"
-    shown(text)       the text that a terminal shows, as of progress bars: shown("50%\r100%\n") is "100%\n"
+    shown(text)       the text that a screen shows, as of progress bars: shown("50%\r100%\n") is "100%\n"; shown_of(stream) in pieces
     to_html(text)     its HTML, to paste after <pre> and a newline: to_html("\x1b[1mhi") is '<span style="font-weight:bold;">hi</span>'
     page(text)        a whole page of it; stylesheet() the rules of HTML by classes
     text_of(stream), html_of(stream)    the same of a stream in pieces, such as a file, piece by piece
@@ -33,7 +33,7 @@ __version__ = "0.1.0"
 __all__ = ["STYLINGS", "html_of", "page", "safe", "strip", "stylesheet", "text_of", "to_html"]
 __all__ += ["events", "Csi", "Esc", "Event", "Events", "Execute", "Hook", "Osc", "Put", "Text", "Unhook"]
 _OF_SCREEN = ["Cell", "Change", "Color", "Cursor", "History", "Margins", "Modes", "Place", "Screen", "Style", "color_rgb"]
-_LATER = {**dict.fromkeys(_OF_SCREEN, ".screen"), "shown": ".shown"}
+_LATER = {**dict.fromkeys(_OF_SCREEN, ".screen"), "shown": ".shown", "shown_of": ".shown"}
 __all__ += _LATER
 
 

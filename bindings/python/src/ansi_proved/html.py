@@ -64,10 +64,15 @@ def html_of(stream, styling="both"):
     return Shared(parts_of(_made(Converter, number_of(styling)), pieces_of(stream)))
 
 
-def to_html(text, styling=BOTH):
+def to_html(text, styling=BOTH, *, shown=False):
     """The HTML of terminal output: a fragment for a `<pre>`, right after a newline there.
 
-    Of a str it is a str, of bytes, a bytearray or a memoryview bytes."""
+    shown: True for what a screen showed of it, as `shown` has it; or the size of that screen, (80, 24). Of a str it is a str, of
+    bytes, a bytearray or a memoryview bytes."""
+    if shown is not False:
+        from .shown import shown_html  # (the library of the screen is loaded where it is wanted)
+
+        return shown_html(text, styling, shown)
     if styling is BOTH:
         short, number = OF_BOTH(text), 0  # (sooner than to look for it)
     else:

@@ -46,7 +46,7 @@ def _named(value, what):
     return exact(value)
 
 
-def page(text, styling="both", *, title="Terminal output", lang="en"):
+def page(text, styling="both", *, title="Terminal output", lang="en", shown=False):
     """A whole page of terminal output, in UTF-8: what `to_html` gives, in the page that ansi2html writes around it.
 
         with open("log", "rb") as log, open("log.html", "wb") as page:
@@ -55,7 +55,7 @@ def page(text, styling="both", *, title="Terminal output", lang="en"):
     (ansi2html also puts each 500 lines into an element of their own, by which a browser opens a long log at once.)
 
     styling: as of `to_html`: "both" is light or dark as its reader has it; by "classes" the rules are in the page's head. lang: the
-    tag of its language: letters, digits and hyphens, 64 at most. Of a str it is a str, of bytes, a bytearray or a memoryview bytes.
+    tag of its language: letters, digits and hyphens, 64 at most. shown: as of `to_html`. Of a str it is a str, of bytes, a bytearray or a memoryview bytes.
     """
     number_of(styling)
     title, lang = _named(title, "a title"), _named(lang, "a language")
@@ -63,7 +63,7 @@ def page(text, styling="both", *, title="Terminal output", lang="en"):
         raise ValueError("a language is a tag of letters, digits and hyphens, 64 at most, and not %r" % lang)
     before, named, looks, tail = _frame(exact(styling))
     head = "".join([before, lang, named, title.translate(ESCAPED), looks])
-    html = to_html(text, styling)
+    html = to_html(text, styling, shown=shown)
     if isinstance(html, str):
         return head + html + tail
     return head.encode() + html + tail.encode()

@@ -1,58 +1,113 @@
-"""The text that a terminal shows of a whole, with what scrolled off."""
+"""What a screen showed of a log."""
 
-from .library import whole_of
-from .screen import GOES_ON, Screen, cells_of, check_size, count_printed
+import ctypes
 
-CELLS = 1 << 18  # cells of the rows that are kept at once, or nearly so
+from .html import number_of
+from .library import address_of, bytes_of, function, pieces_of, whole_of
+from .screen import LIBRARY, check_size
+
+TEXT, SAFE, HTML = range(3)
+PIECE = 64 << 10  # bytes that are given at once
+NO_MEMORY = "there is no memory for what a screen showed"
+_AT, _BOOL, _SIZE = ctypes.c_void_p, ctypes.c_bool, ctypes.c_size_t
 
 
-def shown(text, columns=80, rows=24):
-    r"""The text that a terminal of this size shows: what scrolled off at its top, or was erased with all of it, and what still
-    stands there at the end.
+class Options(ctypes.Structure):
+    """How is written what a screen showed, and by which screen: of 0 columns and 0 rows, that of the recording."""
+
+    _fields_ = [("columns", _SIZE), ("rows", _SIZE), ("form", ctypes.c_ubyte), ("styling", ctypes.c_ubyte), ("reserved", ctypes.c_ubyte * 6)]
+
+
+def _call(name, answer, *kinds):
+    return function("ansi_shown_" + name, answer, _AT, *kinds, library=LIBRARY)
+
+
+_open = _call("open", _BOOL, _AT)
+_close = _call("close", None)
+_feed = _call("feed", _BOOL, _AT, _SIZE)
+_end = _call("end", _BOOL)
+_text = _call("text", _BOOL, _AT, _SIZE, _AT)
+
+
+class Log:
+    """A log that comes in pieces, of bytes, and in the end what the screen showed of it."""
+
+    def __init__(self, options):
+        self._held = _AT()
+        self._at = ctypes.addressof(self._held)
+        if not _open(self._at, ctypes.addressof(options)):
+            raise MemoryError(NO_MEMORY)
+
+    def feed(self, piece):
+        start, count = address_of(piece), len(piece)
+        for at in range(0, count, PIECE):  # (the library copies the first piece)
+            if not _feed(self._at, start + at, min(PIECE, count - at)):
+                raise MemoryError(NO_MEMORY)
+
+    def end(self):
+        if not _end(self._at):
+            raise MemoryError(NO_MEMORY)
+        length, none = _SIZE(), ctypes.create_string_buffer(1)
+        _text(self._at, ctypes.addressof(none), 0, ctypes.addressof(length))
+        room = ctypes.create_string_buffer(max(1, length.value))
+        _text(self._at, ctypes.addressof(room), length.value, ctypes.addressof(length))
+        return room.raw[: length.value]
+
+    def __enter__(self):
+        return self
+
+    def __exit__(self, *error):
+        _close(self._at)
+
+
+def options_of(columns, rows, form, styling=0):
+    """The options for a screen of this size; where neither number is given, of that of the recording."""
+    if columns is None and rows is None:
+        columns = rows = 0
+    else:
+        check_size(columns, rows)
+    return Options(columns, rows, form, styling)
+
+
+def _whole(text, options):
+    stream, is_str = whole_of(text)
+    with Log(options) as log:
+        log.feed(stream)
+        found = log.end()
+    return found.decode() if is_str else found
+
+
+def shown(text, columns=None, rows=None, *, safe=False):
+    r"""The text that a screen shows of a log, as `ansi2text --shown` writes it: what scrolled off at its top, or was erased with
+    all of it, and what still stands there at the end.
 
         ansi_proved.shown(" 10%\r 50%\r100%\n")  # '100%\n'
 
-    A line feed begins a line, as in a log. A row that wrapped and the next one are one line. What is written over is lost, and so is
-    what the alternate screen showed, unless it still shows at the end: then the main screen comes first. A byte that belongs to no
-    character leaves nothing, as with `Screen`, as does a character that is only begun at the end; a surrogate of a str is U+FFFD. Of a
-    str it is a str, of bytes, a bytearray or a memoryview bytes.
+    columns, rows: its size; with neither that which the first line of the log says, as script(1) writes it, and where it says none,
+    1,000 columns and 100 rows. safe: text that hides nothing, as `safe` has it. A row that wrapped and the next one are one line.
+    What is written over is lost, and so is what the alternate screen showed, unless it still shows at the end: then the main screen
+    comes first. Of a str it is a str, of bytes, a bytearray or a memoryview bytes.
     """
-    check_size(columns, rows)
-    stream, is_str = whole_of(text)
-    found = "".join(_lines(_rows(stream.replace(b"\n", b"\r\n"), columns, rows)))
-    return found if is_str else found.encode()
+    return _whole(text, options_of(columns, rows, SAFE if safe else TEXT))
 
 
-def _rows(stream, columns, rows):
-    """The rows that are shown, as the bytes of their cells. A function of two bytes or more lets all rows leave at most, and any
-    other byte one: so many are kept."""
-    few = max(1, CELLS // (columns * (rows // 2 + 2)))
-    with Screen(columns, rows, few + (few // 2 + 1) * rows) as screen:
-        left = 0
-        for at in range(0, len(stream), few):
-            screen.feed(stream[at : at + few])
-            before, left = left, screen.history.left
-            yield from screen.history._last(left - before)
-        if screen.modes.alternate_screen:
-            main = screen.copy()
-            main.feed("\x1b[?1049l")
-            yield from _printed(main)
-        yield from _printed(screen)
+def shown_of(stream, columns=None, rows=None, *, safe=False):
+    """The same of a log that comes in pieces, as a list or a file: what pieces are, `text_of` says."""
+    return _joined(stream, options_of(columns, rows, SAFE if safe else TEXT))
 
 
-def _printed(screen):
-    """The rows of a screen, up to the last in which something was printed."""
-    rows = screen._each_row()
-    while rows and not count_printed(rows[-1]):
-        rows.pop()
-    return rows
+def _joined(stream, options):
+    is_str = True
+    with Log(options) as log:
+        for piece in pieces_of(stream):
+            is_str = isinstance(piece, str)
+            log.feed(bytes_of(piece))
+        found = log.end()
+    return found.decode() if is_str else found
 
 
-def _lines(rows):
-    """The text of rows: each as far as something was printed, and a newline, unless it goes on."""
-    goes_on = False
-    for row in rows:
-        goes_on = row[GOES_ON]
-        yield "".join([cell.text for cell in cells_of(row)[: count_printed(row)]]) + ("" if goes_on else "\n")
-    if goes_on:
-        yield "\n"
+def shown_html(text, styling, size):
+    """The HTML that `ansi2html --fragment --shown` writes of a log: by a screen of this size, or of that of the recording, where it
+    is True."""
+    columns, rows = (None, None) if size is True else size
+    return _whole(text, options_of(columns, rows, HTML, number_of(styling)))

@@ -1,0 +1,4 @@
+mod WrittenLemmas
+mod RunningLemmas
+mod StageLemmas
+mod LogLemmas

@@ -10,11 +10,12 @@ use Rattle.ansi_html.specs.declared.contrast.Rgb.{Rgb}
 use Rattle.ansi_html.specs.declared.scheme.Scheme.{Scheme}
 use Rattle.ansi_html.specs.declared.scheme.Scheme.TheVariants.{Light, Dark, Both}
 use Rattle.ansi_html.specs.Contrast.{black, white}
-use Rattle.ansi_html.specs.Palette.{hex_digit, hex_byte, hex}
-use Rattle.ansi_html.specs.Css.{declared, light_dark, themed, colors_css, text_if, is_underlined, lines_css, underline_css, others_css, css}
-use Rattle.ansi_html.specs.Grammar.{AreReadable, of_page, on_page, on_reversed, on_color, AreColors, readable, chosen, AreLines, no_line, underline, overline, line_through, blink, IsDeclaration, bold, italic, hidden, lines, double, wavy, dotted, dashed, AreDeclarations, no_declaration, declaration}
+use Rattle.ansi_html.specs.Palette.{hex_digit, hex_byte, hex, shades_of}
+use Rattle.ansi_html.specs.Css.{declared, light_dark, themed, colors_css, text_if, is_underlined, lines_css, underline_css, others_css, css, is_chosen, behind_of, ground_css}
+use Rattle.ansi_html.specs.Html.{escaped_text}
+use Rattle.ansi_html.specs.Grammar.{is_special, AreClear, AreReadable, of_page, on_page, on_reversed, on_color, AreColors, readable, chosen, AreLines, no_line, underline, overline, line_through, blink, IsDeclaration, bold, italic, hidden, lines, double, wavy, dotted, dashed, AreDeclarations, no_declaration, declaration}
 use Rattle.ansi_html.proofs.ColorLemmas.{choose, AreColors-css}
-use Rattle.ansi_html.proofs.HtmlLemmas.{false-from_not}
+use Rattle.ansi_html.proofs.HtmlLemmas.{escaped_text-clear, false-from_not}
 
 -- one declaration
 single : (first : List ℕ) → IsDeclaration first → AreDeclarations first
@@ -56,9 +57,10 @@ AreDeclarations-others style =
     (AreDeclarations-append _ (AreDeclarations-lines (is_underlined style.underline) style.overlined style.struck_out style.blink)
     (AreDeclarations-append _ (AreDeclarations-underline style.underline) (AreDeclarations-if style.hidden _ (single _ hidden)))))
 
--- a byte that may stand in an attribute
+-- a byte that may stand in an attribute as it is: of ASCII, no control, and none with a meaning in HTML
 unfoldable pub is_safe : ℕ → Bool
-is_safe b = nat_le 0x20 b && (nat_lt b 0x80 && (not (eqb b 0x22) && not (eqb b 0x26)))
+is_safe b =
+    nat_le 0x20 b && (nat_lt b 0x80 && (not (eqb b 0x22) && (not (eqb b 0x26) && (not (eqb b 0x27) && (not (eqb b 0x3C) && not (eqb b 0x3E))))))
 
 abbrev pub AreSafe : List ℕ → Type 0
 AreSafe bytes = list_all is_safe bytes ≡ true
@@ -69,19 +71,32 @@ AreSafe-append (x ∷ first) second a b =
     let parts = and_parts (is_safe x) (list_all is_safe first) a in
     and_from (is_safe x) (list_all is_safe (first ++ second)) parts.0 (AreSafe-append first second parts.1 b)
 
-pub safe_between : (b : ℕ) → 0x27 ≤ b → b < 0x80 → is_safe b ≡ true
+not_eqb : (b other : ℕ) → (b ≡ other → ⊥) → not (eqb b other) ≡ true
+not_eqb b other differ = ap not (ne_eqb b other differ)
+
+pub safe_between : (b : ℕ) → 0x28 ≤ b → b < 0x80 → (b ≡ 0x3C → ⊥) → (b ≡ 0x3E → ⊥) → is_safe b ≡ true
 unfolding is_safe
-safe_between b low high =
-    and_from (nat_le 0x20 b) (nat_lt b 0x80 && (not (eqb b 0x22) && not (eqb b 0x26))) (le-leb 0x20 b (omega (arith, low)))
-    (and_from (nat_lt b 0x80) (not (eqb b 0x22) && not (eqb b 0x26)) (lt-ltb b 0x80 high)
-    (and_from (not (eqb b 0x22)) (not (eqb b 0x26)) (ap not (ne_eqb b 0x22 (λ e. omega arith))) (ap not (ne_eqb b 0x26 (λ e. omega arith)))))
+safe_between b low high no_less no_greater =
+    and_from (nat_le 0x20 b) _ (le-leb 0x20 b (omega (arith, low)))
+    (and_from (nat_lt b 0x80) _ (lt-ltb b 0x80 high)
+    (and_from (not (eqb b 0x22)) _ (not_eqb b 0x22 (λ e. omega arith))
+    (and_from (not (eqb b 0x26)) _ (not_eqb b 0x26 (λ e. omega arith))
+    (and_from (not (eqb b 0x27)) _ (not_eqb b 0x27 (λ e. omega arith))
+    (and_from (not (eqb b 0x3C)) (not (eqb b 0x3E)) (not_eqb b 0x3C no_less) (not_eqb b 0x3E no_greater))))))
+
+-- a digit below ten, and a letter for a higher one
+pub safe_decimal : (n : ℕ) → n < 10 → is_safe (0x30 + n) ≡ true
+safe_decimal n low = safe_between (0x30 + n) (omega arith) (omega arith) (λ e. omega arith) (λ e. omega arith)
+
+pub safe_letter : (n : ℕ) → n < 16 → is_safe (0x57 + n) ≡ true
+safe_letter n low = safe_between (0x57 + n) (omega arith) (omega arith) (λ e. omega arith) (λ e. omega arith)
 
 safe_digit : (n : ℕ) → is_safe (hex_digit n) ≡ true
-safe_digit n = by_case (nat_lt (n % 16) 10)
+safe_digit n = by_case (nat_lt (n % 16) 10) refl
   where
-    by_case : (low : Bool) → is_safe (if low then 0x30 + n % 16 else 0x57 + n % 16) ≡ true
-    by_case true = safe_between (0x30 + n % 16) (omega arith) (omega arith)
-    by_case false = safe_between (0x57 + n % 16) (omega arith) (omega arith)
+    by_case : (low : Bool) → nat_lt (n % 16) 10 ≡ low → is_safe (if low then 0x30 + n % 16 else 0x57 + n % 16) ≡ true
+    by_case true e = safe_decimal (n % 16) (ltb-true (n % 16) 10 e)
+    by_case false e = safe_letter (n % 16) (omega arith)
 
 AreSafe-byte : (n : ℕ) → AreSafe (hex_byte n)
 AreSafe-byte n =
@@ -155,26 +170,65 @@ AreSafe-declarations : {attribute : List ℕ} → AreDeclarations attribute → 
 AreSafe-declarations no_declaration = refl
 AreSafe-declarations (declaration first rest is others) = AreSafe-append first rest (AreSafe-declaration is) (AreSafe-declarations others)
 
+pub AreSafe-style : (scheme : Scheme) {colors others : List ℕ} → AreColors scheme colors → AreDeclarations others → AreSafe (colors ++ others)
+AreSafe-style scheme {colors} {others} are more = AreSafe-append colors others (AreSafe-colors scheme are) (AreSafe-declarations more)
+
 pub AreSafe-css : (scheme : Scheme) (style : Style) → AreSafe (css scheme style)
-AreSafe-css scheme style =
-    AreSafe-append (colors_css scheme style) (others_css style) (AreSafe-colors scheme (AreColors-css scheme style)) (AreSafe-declarations (AreDeclarations-others style))
+AreSafe-css scheme style = AreSafe-style scheme (AreColors-css scheme style) (AreDeclarations-others style)
 
-safe_parts : (b : ℕ) → is_safe b ≡ true → (0x20 ≤ b) × ((b < 0x80) × ((eqb b 0x22 ≡ false) × (eqb b 0x26 ≡ false)))
+pub AreSafe-selected : (color : Rgb) → AreSafe (declared (codes "color:") color)
 unfolding is_safe
-safe_parts b safe =
-    let parts = and_parts (nat_le 0x20 b) (nat_lt b 0x80 && (not (eqb b 0x22) && not (eqb b 0x26))) safe in
-    let more = and_parts (nat_lt b 0x80) (not (eqb b 0x22) && not (eqb b 0x26)) parts.1 in
-    let others = and_parts (not (eqb b 0x22)) (not (eqb b 0x26)) more.1 in
-    (leb-true 0x20 b parts.0, (ltb-true b 0x80 more.0, (false-from_not (eqb b 0x22) others.0, false-from_not (eqb b 0x26) others.1)))
+AreSafe-selected color = AreSafe-declared (codes "color:") color refl
 
-pub not_quote-safe : (b : ℕ) → is_safe b ≡ true → eqb b 0x22 ≡ false
-not_quote-safe b safe = (safe_parts b safe).1.1.0
+-- and the ground of a style as the colour of a shape
+pub AreSafe-ground : (style : Style) → AreSafe (ground_css style)
+unfolding is_safe
+AreSafe-ground style =
+    choose AreSafe (is_chosen (behind_of style)) _ _ (AreSafe-selected (shades_of (behind_of style)).fixed) refl
 
-pub not_ampersand-safe : (b : ℕ) → is_safe b ≡ true → eqb b 0x26 ≡ false
-not_ampersand-safe b safe = (safe_parts b safe).1.1.1
+module _ (b : ℕ) (safe : is_safe b ≡ true) where
+  pub safe_parts : (0x20 ≤ b) × (b < 0x80) × (eqb b 0x22 ≡ false) × (eqb b 0x26 ≡ false) × (eqb b 0x27 ≡ false) × (eqb b 0x3C ≡ false) × (eqb b 0x3E ≡ false)
+  unfolding is_safe
+  safe_parts =
+      let above = and_parts (nat_le 0x20 b) _ safe in
+      let below = and_parts (nat_lt b 0x80) _ above.1 in
+      let quote = and_parts (not (eqb b 0x22)) _ below.1 in
+      let ampersand = and_parts (not (eqb b 0x26)) _ quote.1 in
+      let apostrophe = and_parts (not (eqb b 0x27)) _ ampersand.1 in
+      let angles = and_parts (not (eqb b 0x3C)) (not (eqb b 0x3E)) apostrophe.1 in (
+        leb-true 0x20 b above.0,
+        ltb-true b 0x80 below.0,
+        false-from_not (eqb b 0x22) quote.0,
+        false-from_not (eqb b 0x26) ampersand.0,
+        false-from_not (eqb b 0x27) apostrophe.0,
+        false-from_not (eqb b 0x3C) angles.0,
+        false-from_not (eqb b 0x3E) angles.1,
+      )
 
-pub ascii-safe : (b : ℕ) → is_safe b ≡ true → b < 0x80
-ascii-safe b safe = (safe_parts b safe).1.0
+  pub not_quote-safe : eqb b 0x22 ≡ false
+  not_quote-safe = let (above, below, quote, ampersand, apostrophe, less, greater) = safe_parts in quote
 
-pub not_return-safe : (b : ℕ) → is_safe b ≡ true → eqb b 0x0D ≡ false
-not_return-safe b safe = ne_eqb b 0x0D (λ e. omega (arith, (safe_parts b safe).0))
+  pub not_ampersand-safe : eqb b 0x26 ≡ false
+  not_ampersand-safe = let (above, below, quote, ampersand, apostrophe, less, greater) = safe_parts in ampersand
+
+  pub ascii-safe : b < 0x80
+  ascii-safe = let (above, below, quote, ampersand, apostrophe, less, greater) = safe_parts in below
+
+  pub not_return-safe : eqb b 0x0D ≡ false
+  not_return-safe = let (above, below, quote, ampersand, apostrophe, less, greater) = safe_parts in ne_eqb b 0x0D (λ e. omega (arith, above))
+
+  -- it has no meaning in HTML
+  pub clear-safe : is_special b ≡ false
+  unfolding is_special
+  clear-safe =
+      let (above, below, quote, ampersand, apostrophe, less, greater) = safe_parts in
+      rw (ampersand, less, greater, quote, apostrophe) not_return-safe
+
+-- such bytes are written as they are
+pub AreClear-safe : (bytes : List ℕ) → AreSafe bytes → AreClear bytes
+AreClear-safe [] safe = tt
+AreClear-safe (b ∷ bytes) safe =
+    let parts = and_parts (is_safe b) (list_all is_safe bytes) safe in (clear-safe b parts.0, AreClear-safe bytes parts.1)
+
+pub escaped_text-safe : (bytes : List ℕ) → AreSafe bytes → escaped_text bytes ≡ bytes
+escaped_text-safe bytes safe = escaped_text-clear bytes (AreClear-safe bytes safe)

@@ -40,7 +40,7 @@ pub AtMost-append : (m n : ℕ) (first second : List ℕ) → AtMost m first →
 unfolding AtMost
 AtMost-append m n first second a b = omega (arith, length-append first second)
 
-AtMost-if : (n : ℕ) (wanted : Bool) (text : List ℕ) → AtMost n text → AtMost n (text_if wanted text)
+pub AtMost-if : (n : ℕ) (wanted : Bool) (text : List ℕ) → AtMost n text → AtMost n (text_if wanted text)
 unfolding AtMost
 AtMost-if n wanted text few = choose (λ l. length l ≤ n) wanted text [] few (omega arith)
 
@@ -52,7 +52,7 @@ AtMost-hex : (color : Rgb) → AtMost 7 (hex color)
 unfolding AtMost
 AtMost-hex color = omega arith
 
-AtMost-declared : (property : List ℕ) (color : Rgb) → AtMost (length property + 8) (declared property color)
+pub AtMost-declared : (property : List ℕ) (color : Rgb) → AtMost (length property + 8) (declared property color)
 AtMost-declared property color =
     AtMost-append (length property) 8 property (hex color ++ codes ";") (AtMost-length property)
     (AtMost-append 7 1 (hex color) (codes ";") (AtMost-hex color) (AtMost-length (codes ";")))
@@ -114,7 +114,7 @@ AtMost-underline Dotted = omega arith
 AtMost-underline Dashed = omega arith
 
 -- 118 for the colours, 17 and 18 for bold and italic, 60 and 29 for lines, 18 for hidden
-AtMost-css : (scheme : Scheme) (style : Style) → AtMost 260 (css scheme style)
+pub AtMost-css : (scheme : Scheme) (style : Style) → AtMost 260 (css scheme style)
 unfolding AtMost
 AtMost-css scheme style =
     AtMost-append 118 142 (colors_css scheme style) _ (AtMost-colors scheme (AreColors-css scheme style))

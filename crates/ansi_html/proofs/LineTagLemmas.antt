@@ -8,7 +8,7 @@ use Rattle.std.proofs.lemmas.Bool.{and_from}
 use Rattle.std.proofs.lemmas.Str.{IsUtf8-append}
 use Rattle.ansi_html.specs.Lines.{line_begin, line_end}
 use Rattle.ansi_html.specs.Reader.{Attributes, no_attributes, in_force, within, in_text, in_value, seen_from}
-use Rattle.ansi_html.proofs.DeclarationLemmas.{is_safe, AreSafe, safe_between}
+use Rattle.ansi_html.proofs.DeclarationLemmas.{is_safe, AreSafe, safe_decimal, safe_letter}
 use Rattle.ansi_html.proofs.NewlineLemmas.{is_not_return, HasNoReturn, HasNoReturn-append, HasNoReturn-safe}
 use Rattle.ansi_html.proofs.TextLemmas.{IsUtf8-ascii, IsUtf8-safe}
 use Rattle.ansi_html.proofs.ReadLemmas.{seen-value}
@@ -18,8 +18,8 @@ safe_glyph : (n : ℕ) → is_safe (digit_glyph false (n % 10)) ≡ true
 safe_glyph n = by_case (nat_lt (n % 10) 10)
   where
     by_case : (low : Bool) → is_safe (if low then 48 + n % 10 else 87 + n % 10) ≡ true
-    by_case true = safe_between (48 + n % 10) (omega arith) (omega arith)
-    by_case false = safe_between (87 + n % 10) (omega arith) (omega arith)
+    by_case true = safe_decimal (n % 10) (omega arith)
+    by_case false = safe_letter (n % 10) (omega arith)
 
 AreSafe-digits : (fuel n : ℕ) (bytes : List ℕ) → AreSafe bytes → AreSafe (digits_onto fuel 10 false n bytes)
 AreSafe-digits zero n bytes safe = safe

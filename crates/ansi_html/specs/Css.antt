@@ -125,3 +125,13 @@ others_css style =
 -- the declarations of a style; of the plain one there are none
 abbrev pub css : Scheme → Style → List ℕ
 css scheme style = colors_css scheme style ++ others_css style
+
+-- Whether a style has a ground of its own; and that ground as the colour of a shape that is drawn behind its text: the
+-- one that is selected, or else the colour of the page's text.
+abbrev pub has_ground : Style → Bool
+has_ground style = is_chosen (behind_of style) || style.reverse
+
+abbrev pub ground_css : Style → List ℕ
+ground_css style =
+    if is_chosen (behind_of style) then declared (codes "color:") (shades_of (behind_of style)).fixed
+    else codes "color:inherit;"

@@ -539,7 +539,7 @@ fn after_few_clear(bytes: &[u8]) -> &[u8]
 /// Writes text, with a character reference for each byte that has a meaning in HTML.
 #[inline]
 #[tactic(auto, using(crate::proofs::HtmlLemmas::escaped_one))]
-pub(crate) fn put_escaped<W: Sink>(output: &mut Output<W>, text: &[u8])
+pub fn put_escaped<W: Sink>(output: &mut Output<W>, text: &[u8])
     ensures { Adds W.Sink (escaped_text text.now) output.old output.new }
 {
     match text {
@@ -569,7 +569,7 @@ fn put_in_parts<W: Sink>(output: &mut Output<W>, text: &[u8])
 /// Writes a character, of which none but those of ASCII has a meaning in HTML.
 #[inline]
 #[tactic(auto, using(crate::proofs::HtmlLemmas::escaped_ascii, crate::proofs::HtmlLemmas::escaped_high))]
-pub(crate) fn put_character<W: Sink>(output: &mut Output<W>, c: char)
+pub fn put_character<W: Sink>(output: &mut Output<W>, c: char)
     ensures { Adds W.Sink (escaped_text (encode_utf8 c)) output.old output.new }
 {
     if c.is_ascii() {

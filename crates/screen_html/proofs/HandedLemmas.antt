@@ -127,7 +127,7 @@ link-if : (t : Bool) (link : List ℕ) → IsSound link → IsSound (if t then l
 link-if true link is = is
 link-if false link is = IsSound-none
 
-sound-link_at : (number : ℕ) (links : List Kept) → AreKept links → IsSound (link_at number links)
+pub sound-link_at : (number : ℕ) (links : List Kept) → AreKept links → IsSound (link_at number links)
 unfolding link_at
 sound-link_at number links are = link-if ((place_of number links).number == number) (place_of number links).link (kept-get links (number % most_kept) are)
 

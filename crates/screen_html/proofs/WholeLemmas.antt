@@ -106,7 +106,7 @@ kept-by unhook s links are = are
 kept-by (csi_dispatch groups intermediates ignore final) s links are = are
 kept-by (esc_dispatch intermediates ignore final) s links are = are
 
-kept-all : (calls : List Call) (s : State) (links : Table) → AreKept links.places → AreKept (all_links calls s links).places
+pub kept-all : (calls : List Call) (s : State) (links : Table) → AreKept links.places → AreKept (all_links calls s links).places
 kept-all [] s links are = are
 kept-all (call ∷ calls) s links are = kept-all calls (after call s) (links_by call (after call s) links) (kept-by call (after call s) links are)
 

@@ -1,0 +1,11 @@
+pub mod XmlLemmas
+pub mod AddsLemmas
+pub mod RunLemmas
+pub mod SafeLemmas
+pub mod CharacterLemmas
+pub mod GrammarLemmas
+pub mod NamedLemmas
+pub mod ReadingLemmas
+pub mod WellFormedLemmas
+pub mod PictureLemmas
+pub mod ChoiceLemmas

@@ -1,0 +1,6 @@
+pub mod Xml
+pub mod Characters
+pub mod Runs
+pub mod Picture
+pub mod Grammar
+pub mod Reading

@@ -1,0 +1,6 @@
+//! The tests of pictures, through the public calls of `screen_svg`. They stand in a crate above it, since a crate with
+//! tests is proved twice.
+#![tactic(auto)]
+
+#[cfg(test)]
+mod tests;

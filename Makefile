@@ -17,11 +17,11 @@ CC = cc
 PYTHON = python3
 INSTALL = install
 
-PROGRAMS = ansi2text ansi2html ansi2screen parselog
+PROGRAMS = ansi2text ansi2html ansi2screen ansi2svg parselog
 # those that shells complete the words of
 COMPLETED = $(PROGRAMS)
 # the scripts of tests/
-TESTS = asked browser cells classes contrast costs dist documents install library library_python links packages programs screen_library \
+TESTS = asked browser cells classes contrast costs dist documents install library library_python links packages pictures programs screen_library \
     screen_twin vectors
 # those that want what is proved: they count instructions, or make what is handed out
 PROVED = costs cells dist

@@ -27,7 +27,7 @@ sys.dont_write_bytecode = True
 from lib.stand_ins import put_command
 
 ROOT = os.path.dirname(os.path.dirname(os.path.realpath(__file__)))
-BUILT = [*("crates/{0}/out/{0}".format(it) for it in ("ansi2html", "ansi2text", "ansi2screen", "parselog"))]
+BUILT = [*("crates/{0}/out/{0}".format(it) for it in ("ansi2html", "ansi2text", "ansi2screen", "ansi2svg", "parselog"))]
 BUILT += ["crates/ansi_screen_c/out/libansi_screen.a", "crates/ansi/out/libansi.a"]
 # what is built, by the names of files anywhere, or by their paths
 UNCOPIED = ["out", "__pycache__", "target", "*.egg-info", "*.so", "*.so.*", "*.h.*", "*.css.*"]

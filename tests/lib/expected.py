@@ -796,4 +796,15 @@ PROGRAMS = [
         # (where no size is given the first line may say it)
         following=[(["--size=80X24", "--updates"], b""), (["--updates"], b"a\n")],
     ),
+    # (what its pictures are tests/pictures tries)
+    Program(
+        "ansi2svg",
+        refused_by("ansi2svg", ["--shown"], ["--window=x"])
+        + [([*before, it], wants("ansi2svg", it)) for it in ("--size", "--title", "--font") for before in ([], ["a"])]
+        + [(["--size", word], wrong_size(b"ansi2svg")) for word in ("--dark", "1x1", "")]
+        + [(words, b"ansi2svg: a picture is that of one file (see ansi2svg --help)") for words in (["a", "b"], ["-", "-"], ["a", "--", "-b"])],
+        [],
+        options=["--size=COLUMNSxROWS", "--light", "--dark", "--cursor", "--window", "--title=TEXT", "--font=FONTS", "--output=FILE"],
+        files=[([], [])],
+    ),
 ]

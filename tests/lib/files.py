@@ -29,6 +29,7 @@ HEADINGS = {
     "no\x1b[31m": "no&lt;U+001B&gt;[31m",
     "no\x9b": "no&lt;U+009B&gt;",
 }
+OF_ONE_FILE = "ansi2screen", "ansi2svg"
 PARTS = [b"\x1b[1mone\x1b[0m\n", b"tw\xe2\x82", b"\xaco\n\x1b[3", b"1mthree\r\n", b""]
 
 
@@ -37,7 +38,7 @@ class Rows:
 
     def __init__(self, name, path, words, alone, run, differs):
         self.name, self.words, self.alone, self.run, self.differs = name, words, alone, run, differs
-        self.takes_many = name != "ansi2screen"
+        self.takes_many = name not in OF_ONE_FILE
         # what it writes of a file in a folder, and what that is named after the file
         self.what, self.extension = ("page", ".html") if name == "ansi2html" else ("text", ".txt")
         self.room = os.path.realpath(tempfile.mkdtemp())
@@ -641,9 +642,9 @@ def taken_cases(rows):
 
 def memory_cases(rows):
     """A screen of 10 MB, in more and more memory: what is written is there whole, or it is said that memory is wanting, and no file is left."""
-    if rows.name != "ansi2screen" and rows.words[-1:] != ["--shown"]:
+    if rows.name not in OF_ONE_FILE and rows.words[-1:] != ["--shown"]:
         return
-    size = ["--size=500x500"] if rows.name == "ansi2screen" else ["--shown=500x500"]
+    size = ["--size=500x500"] if rows.name in OF_ONE_FILE else ["--shown=500x500"]
     wanting = {"status": 1, "err": b"%s: out of memory\n" % rows.name.encode()}
     before = rows.left()
     for form in [[], ["--draw"], ["--updates"]] if rows.name == "ansi2screen" else [[]]:

@@ -111,6 +111,11 @@ PHRASES = {
         "from {MIN_COLUMNS}x{MIN_ROWS} to {MAX_COLUMNS}x{MAX_ROWS}. where", "and else {COLUMNS}x{ROWS}.", 'columns="120" lines="40"', "links (osc 8) and whether",
         "each read, of {PIECE} bytes at most", "looked at, {MOST_FRONT} bytes",
     ],
+    "man/ansi2svg.1": [
+        STATUSES[0], STATUSES[3], "was said. {FAILED} the file", "drawn. {MISUSED} an option", "hidden text sgr {hidden}", "a character that is broken is u+fffd", "--size 80x24",
+        "from {MIN_COLUMNS}x{MIN_ROWS} to {MAX_COLUMNS}x{MAX_ROWS}. where", "and else {COLUMNS}x{ROWS}.", 'columns="120" lines="40"', "it keeps the links (osc 8) that",
+        "a cell is 10 units wide and 20 high", "xml may not have is u+fffd", "30 units high", "(svg) 2, in xml 1.0", "2.54 knows no",
+    ],
     "man/ansi2text.1": [
         *STATUSES, *OF_SHOWN, *CUT_OFF, "all other control characters from 00 to 1f", "del (7f) and the characters " + C1, "is broken becomes u+fffd", "each byte a0 to ff that belongs to no character",
         "a byte 80 to 9f by itself leaves nothing",

@@ -20,6 +20,7 @@ PATIENCE = 30
 TYPED = {
     "ansi2html": [("--frag", "--fragment "), ("--ti", "--title="), ("", "build.log "), ("-o ", "-o build.log "), ("--output=", "--output=build.log "), ("--shown ", "--shown build.log ")],
     "ansi2screen": [("--dr", "--draw "), ("--si", "--size="), ("", "build.log "), ("-o b", "-o build.log ")],
+    "ansi2svg": [("--cu", "--cursor "), ("--ti", "--title="), ("", "build.log "), ("-o b", "-o build.log ")],
     "ansi2text": [("--sa", "--safe "), ("", "build.log "), ("--lf b", "--lf build.log "), ("-o ", "-o build.log "), ("--shown ", "--shown build.log ")],
     "parselog": [("can", "canon "), ("< b", "< build.log "), ("canon < ", "canon < build.log ")],
 }

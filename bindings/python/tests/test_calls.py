@@ -343,7 +343,7 @@ class Calls(unittest.TestCase):
             done = subprocess.run(run + words, stdout=subprocess.PIPE, stderr=subprocess.PIPE)
             told = (done.stderr if status else done.stdout).decode()
             self.assertEqual((done.returncode, told.startswith(said)), (status, True), told)
-            for name in ("ansi2text", "ansi2html", "ansi2screen", "parselog"):
+            for name in ("ansi2text", "ansi2html", "ansi2screen", "ansi2svg", "parselog"):
                 self.assertIn(name, told)
 
     def test_a_screen(self):

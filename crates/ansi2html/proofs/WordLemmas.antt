@@ -1,13 +1,7 @@
--- One word more of those that say the scheme, and the form.
+-- One word more of those that say the form.
 use Rattle.std.proofs.Common.{◌≡◌, ℕ, List, [], ◌∷◌, ◌++◌, refl}
-use Rattle.ansi_html.specs.declared.scheme.Scheme.{Scheme}
 use Rattle.ansi2html.specs.declared.form.Form.{Form}
-use Rattle.ansi2html.specs.Words.{form_after, form_from, scheme_after, scheme_from}
-
-pub scheme_from-push : (scheme : Scheme) (words : List (List ℕ)) (word : List ℕ)
-    → scheme_from scheme (words ++ word ∷ []) ≡ scheme_after (scheme_from scheme words) word
-scheme_from-push scheme [] word = refl
-scheme_from-push scheme (first ∷ words) word = scheme_from-push (scheme_after scheme first) words word
+use Rattle.ansi2html.specs.Words.{form_after, form_from}
 
 pub form_from-push : (form : Form) (words : List (List ℕ)) (word : List ℕ)
     → form_from form (words ++ word ∷ []) ≡ form_after (form_from form words) word

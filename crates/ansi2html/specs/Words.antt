@@ -3,7 +3,6 @@ use Rattle.std.specs.Prelude.{ℕ, Bool, ◌||◌, ◌&&◌, nat_eq, nat_le, nat
 use Rattle.std.specs.List.{list_all, list_any, starts_with}
 use Rattle.command_line.specs.Options.{has_word, last_value}
 use Rattle.ansi_html.specs.declared.scheme.Scheme.{Scheme}
-use Rattle.ansi_html.specs.declared.scheme.Scheme.TheVariants.{Light, Dark, Both}
 use Rattle.ansi_html.specs.declared.scheme.Styling.{Styling}
 use Rattle.ansi_html.specs.declared.scheme.Styling.TheVariants.{Inline, Classes}
 use Rattle.ansi2html.specs.declared.form.Form.{Form}
@@ -31,18 +30,6 @@ is_of_a_page word =
 
 abbrev pub says_of_a_page : (words : List (List ℕ)) → Bool
 says_of_a_page words = list_any is_of_a_page words
-
--- The scheme after one word more, and after all: the last of --light and --dark, and else both.
-abbrev pub scheme_after : Scheme → (word : List ℕ) → Scheme
-scheme_after scheme word =
-    if bytes_eq word (codes "--light") then Light else if bytes_eq word (codes "--dark") then Dark else scheme
-
-abbrev pub scheme_from : Scheme → (words : List (List ℕ)) → Scheme
-scheme_from scheme [] = scheme
-scheme_from scheme (word ∷ words) = scheme_from (scheme_after scheme word) words
-
-abbrev pub scheme_of : (words : List (List ℕ)) → Scheme
-scheme_of words = scheme_from Both words
 
 -- classes where some word is --classes, and else declarations
 abbrev pub styling_of : Scheme → (words : List (List ℕ)) → Styling

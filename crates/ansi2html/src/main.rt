@@ -25,6 +25,7 @@ use parts::{Frame, Part, one_has_failed, parts, write_parts};
 use screen_calls::{CallRows, ShowingFirst};
 use screen_html::{BlockRows, HtmlRows};
 use screen_text::{SHOWN, ShownSize, ShownWriter, screen_size};
+use shared_options::scheme_of;
 use std::alloc::Global;
 use std::process::ExitCode;
 use streams::{Blocking, BlockingUrls, Converting, ConvertingUrls, Lining, LiningUrls, Showing};
@@ -32,7 +33,7 @@ use without_hidden::{LeavingOut, WithoutHidden};
 use words::{
     HELP, NO_FILES, NO_LANGUAGE, NOT_OF_A_PAGE, ONE_FILE, OPTIONS, PAGES, asks_for_lines,
     asks_for_no_hidden, asks_for_stylesheet, asks_for_urls, asks_to_scroll, form, language,
-    says_of_a_page, scheme, stylesheet_address, styling, title_or,
+    says_of_a_page, stylesheet_address, styling, title_or,
 };
 
 /// The name at the front of what the program says of failures.
@@ -50,7 +51,7 @@ fn main(rt: HostRuntime) -> ExitCode {
     let Ok(size) = screen_size(value_of(options, SHOWN)) else {
         return wrong_size(&rt, PROGRAM);
     };
-    let scheme = scheme(options);
+    let scheme = scheme_of(options);
     if asks_for_stylesheet(options) {
         if !line.files.is_empty() {
             return misused(&rt, NO_FILES);

@@ -2,7 +2,7 @@
 ghost use Rattle.std.specs.Prelude.{◌≡◌, codes, map, string_bytes, option_copied, unwrap_or};
 ghost use Rattle.std.specs.List.{list_all};
 ghost use Rattle.command_line.specs.Options.{last_value};
-ghost use Rattle.ansi2html.specs.Words.{form_after, form_of, is_of_a_page, says_of_a_page, scheme_after, scheme_of, styling_of, asks_for_stylesheet, is_tag_byte, is_tag, language_of, asks_for_lines, asks_to_scroll, asks_for_urls, asks_for_no_hidden};
+ghost use Rattle.ansi2html.specs.Words.{form_after, form_of, is_of_a_page, says_of_a_page, styling_of, asks_for_stylesheet, is_tag_byte, is_tag, language_of, asks_for_lines, asks_to_scroll, asks_for_urls, asks_for_no_hidden};
 
 use crate::form::{Form, LANGUAGE};
 use ansi_html::{Scheme, Styling};
@@ -164,30 +164,6 @@ fn is_of_a_page(word: &str) -> bool
         || word.starts_with(STYLED_BY)
         || word.starts_with(IN_LANGUAGE)
         || word == "--scroll"
-}
-
-/// The pages that the colours are for: by the last of `--light` and `--dark`, and else both.
-pub fn scheme(words: &[String]) -> Scheme
-    ensures { result ≡ scheme_of (map string_bytes words.now) }
-{
-    let mut scheme = Scheme::Both;
-    for word in words {
-        scheme = scheme_after(scheme, word.as_str());
-    }
-    scheme
-}
-
-/// The same after one word more.
-fn scheme_after(scheme: Scheme, word: &str) -> Scheme
-    ensures { result ≡ scheme_after scheme word.now }
-{
-    if word == "--light" {
-        Scheme::Light
-    } else if word == "--dark" {
-        Scheme::Dark
-    } else {
-        scheme
-    }
 }
 
 /// How styles are said: by classes where a word is `--classes`, and else inline, for these pages.

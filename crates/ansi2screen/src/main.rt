@@ -2,7 +2,6 @@
 //! or as the bytes that draw it; or as input comes, what updates it.
 #![tactic(auto)]
 
-mod recording;
 mod words;
 
 ghost use Rattle.std.specs.Prelude.{◌≡◌, None, IfSome};
@@ -15,13 +14,11 @@ use command_line::{
     Input, OUTPUT, Target, answered, asked_of, buffered, given_line, misused, value_of, wrong_size,
 };
 use each_source::{Begun, MOST_FRONT, Stopped};
-use recording::{begun, screen_size};
 use screen_draw::{Form, show_to_end, update_to_end};
+use shared_options::{SIZE, begun, named_file, named_size, screen_size};
 use std::alloc::Global;
 use std::process::ExitCode;
-use words::{
-    BOTH, HELP, MORE_FILES, OPTIONS, SIZE, asks_for_updates, asks_to_draw, named_file, named_size,
-};
+use words::{BOTH, HELP, MORE_FILES, OPTIONS, asks_for_updates, asks_to_draw};
 
 /// The name at the front of what the program says of failures.
 const PROGRAM: &str = "ansi2screen";

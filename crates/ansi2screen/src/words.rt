@@ -1,17 +1,12 @@
-//! The words of the program: the size that its options name, and what it says of itself.
-ghost use Rattle.std.specs.Prelude.{◌≡◌, IfOk, IfSome, map, option_copied, string_bytes};
-ghost use Rattle.ansi2screen.specs.Words.{asks_to_draw, asks_for_updates, file_of, IsNamed};
-ghost use Rattle.ansi_screen.specs.Size.{IsTaken};
+//! The words of the program: what its options ask for, and what it says of itself.
+ghost use Rattle.std.specs.Prelude.{◌≡◌, map, string_bytes};
+ghost use Rattle.ansi2screen.specs.Words.{asks_to_draw, asks_for_updates};
 
-use ansi_screen::Size;
 use command_line::{OUTPUT, has_word};
-use screen_text::NoSize;
+use shared_options::SIZE;
 
 /// The options.
 pub const OPTIONS: &[&str] = &[SIZE, DRAW, UPDATES, OUTPUT];
-
-/// What stands before a size.
-pub const SIZE: &str = "--size=";
 
 /// What asks for the bytes that draw the screen.
 const DRAW: &str = "--draw";
@@ -63,29 +58,4 @@ pub fn asks_for_updates(words: &[String]) -> bool
     ensures { result ≡ asks_for_updates (map string_bytes words.now) }
 {
     has_word(words, UPDATES)
-}
-
-/// The size that this text says; with no text none.
-pub fn named_size(text: Option<&str>) -> Result<Option<Size>, NoSize>
-    ensures named { IsNamed (option_copied text.entry) result }
-    ensures taken { IfOk result (λ size. IfSome size IsTaken) }
-{
-    match text {
-        None => Ok(None),
-        Some(text) => match Size::parse(text) {
-            None => Err(NoSize),
-            Some(size) => Ok(Some(size)),
-        },
-    }
-}
-
-/// The file that is read: standard input where none is named. `None` where more than one is.
-pub fn named_file(files: &[String]) -> Option<&str>
-    ensures { option_copied result ≡ file_of (map string_bytes files.now) }
-{
-    match files {
-        [] => Some("-"),
-        [name] => Some(name.as_str()),
-        _ => None,
-    }
 }

@@ -16,7 +16,7 @@ TypeError in words. A surrogate in a str, as errors="surrogateescape" leaves it,
 HTML has a styling: "both" (light and dark pages), "light", "dark" or "classes".
 
 help(ansi_proved.strip), and so on of each name, says more. Threads may call all of it, and share a Screen and what text_of,
-html_of and events give. `python -m ansi_proved` runs the programs ansi2text, ansi2html, ansi2screen and parselog.
+html_of and events give. `python -m ansi_proved` runs the programs ansi2text, ansi2html, ansi2screen, ansi2svg and parselog.
 """
 
 # Of the shared libraries libansi.so stands beside this file, or is what the variable ANSI_LIBRARY names; where there is none, the import

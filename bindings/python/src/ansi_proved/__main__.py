@@ -7,7 +7,7 @@ import sysconfig
 
 from .library import FOLDER
 
-PROGRAMS = "ansi2text", "ansi2html", "ansi2screen", "parselog"
+PROGRAMS = "ansi2text", "ansi2html", "ansi2screen", "ansi2svg", "parselog"
 USAGE = """usage: python -m ansi_proved PROGRAM [WORD]..
 
 Runs a program of the package, with these words: %s.

@@ -2,7 +2,7 @@
 use Rattle.std.proofs.Common.{◌++◌, take, sym, ap, ◌∙◌, subst}
 use Rattle.std.specs.Io.KnownBytes.{Consumes}
 use Rattle.each_source.specs.Begun.{IsFront}
-use Rattle.ansi2screen.proofs.recording.begun.Goals as goal
+use Rattle.shared_options.proofs.recording.begun.Goals as goal
 
 pub returns-clause-begun : goal.returns-clause-begun
 returns-clause-begun g c =

@@ -2,7 +2,7 @@
 ghost use Rattle.std.specs.Prelude.{◌≡◌, IfSome, unwrap_or};
 ghost use Rattle.std.specs.Option.{option_or};
 ghost use Rattle.ansi_screen.specs.Size.{IsTaken, a_terminal};
-ghost use Rattle.ansi2screen.specs.Recording.{IsBegun};
+ghost use Rattle.shared_options.specs.Recording.{IsBegun};
 
 use ansi_screen::Size;
 use anstyle_parse::io::Source;

@@ -1,7 +1,7 @@
 -- The scheme so far is that of the words so far.
 use Rattle.std.proofs.Common.{◌≡◌, take, map, string_bytes}
-use Rattle.ansi2html.specs.Words.{scheme_of}
-use Rattle.ansi2html.proofs.words.scheme.Given as goal
+use Rattle.shared_options.specs.Scheme.{scheme_of}
+use Rattle.shared_options.proofs.scheme.scheme_of.Given as goal
 
 abbrev pub invariant-loop-word : goal.invariant-loop-word
 invariant-loop-word l = record {

@@ -2,9 +2,9 @@
 use Rattle.std.proofs.Common.{◌∙◌, sym, ap, ap₂, take, map, string_bytes, ◌++◌, ◌∷◌, []}
 use Rattle.std.proofs.lemmas.List.{take_more, map-append}
 use Rattle.ansi_html.specs.declared.scheme.Scheme.TheVariants.{Both}
-use Rattle.ansi2html.specs.Words.{scheme_after, scheme_of}
-use Rattle.ansi2html.proofs.WordLemmas.{scheme_from-push}
-use Rattle.ansi2html.proofs.words.scheme.Goals as goal
+use Rattle.shared_options.specs.Scheme.{scheme_after, scheme_of}
+use Rattle.shared_options.proofs.WordLemmas.{scheme_from-push}
+use Rattle.shared_options.proofs.scheme.scheme_of.Goals as goal
 
 pub loop-word-preserved : goal.loop-word-preserved
 loop-word-preserved c =

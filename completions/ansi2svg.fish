@@ -1,0 +1,11 @@
+# The options and files of ansi2svg, for fish.
+complete -c ansi2svg -l size -x -d 'the size of the screen'
+complete -c ansi2svg -l light -d 'colours for light pages alone'
+complete -c ansi2svg -l dark -d 'colours for dark pages alone'
+complete -c ansi2svg -l cursor -d 'draw the cursor'
+complete -c ansi2svg -l window -d 'draw the bar of a window'
+complete -c ansi2svg -l title -x -d 'the title of the picture'
+complete -c ansi2svg -l font -x -d 'the fonts, as CSS names them'
+complete -c ansi2svg -s o -l output -r -F -d 'write to this file in place of standard output'
+complete -c ansi2svg -s h -l help -d 'say what it does'
+complete -c ansi2svg -l version -d 'say which version it is'

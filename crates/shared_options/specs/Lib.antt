@@ -1,0 +1,3 @@
+pub mod Recording
+pub mod Scheme
+pub mod Size

@@ -61,14 +61,15 @@ PHRASES = {
     ],
     "include/ansi_strip.h": [
         *OWED, *FALSE, *NOTHING, "tab (09), line feed (0a) and carriage return (0d)", "the other controls below 20 leave nothing", "del (7f) and the characters " + C1,
-        "a character that is broken leaves u+fffd", "each byte a0 to ff that belongs to no character", "no control below 20 but those three", "two pieces: {ansi_strip} bytes",
+        "a character that is broken leaves u+fffd", "each byte 80 to ff that belongs to no character", "the byte 9c ends no string", "no control below 20 but those three", "two pieces: {ansi_strip} bytes",
         "writes u+fffd where a character is begun", "two pieces: {ansi_lf} byte, which", "0 begins a text",
     ],
     "man/ansi_strip.3": [
-        *OWED, *FALSE, "neither del nor " + C1, "a broken character is u+fffd", "each byte a0 to ff that belongs to no character", "it writes u+fffd where a character is begun",
+        *OWED, *FALSE, "neither del nor " + C1, "a broken character is u+fffd", "each byte 80 to ff that belongs to no character", "and the byte 9c none", "it writes u+fffd where a character is begun",
         "is a byte, and 0 begins a text", "of room, which are {ANSI_LF_LEAST_ROOM}", "none that takes " + C1,
     ],
     "include/ansi_screen.h": [
+        "and no byte 9c in such a one",
         *OWED, *ANSWERED, "in {ansi_rgb} bytes: or none, where told is 0", "own colours, in {ansi_colors} bytes", "a character that is broken is u+fffd", "none, in {ansi_screen} bytes", "any other number is {ANY_STYLING}", "one of xterm's 256, by its number", "a colour, in {ansi_color} bytes",
         "is shown, in {ansi_style} bytes", "from bold on each is {ON} or {OFF}.. {OFF}. how much of a character", "of a screen shows, in {ansi_cell} bytes", "each link (osc 8) since the last reset; {NO_LINK} for none",
         "{GOES_ON} in the last cell of a row from which autowrap went on to the next: both are one line. {OFF}.", "modes, in {ansi_modes} bytes: each is {ON} where it is on, else {OFF}", "dectcem. 1049. decawm",
@@ -117,8 +118,8 @@ PHRASES = {
         "a cell is 10 units wide and 20 high", "xml may not have is u+fffd", "30 units high", "(svg) 2, in xml 1.0", "2.54 knows no",
     ],
     "man/ansi2text.1": [
-        *STATUSES, *OF_SHOWN, *CUT_OFF, "all other control characters from 00 to 1f", "del (7f) and the characters " + C1, "is broken becomes u+fffd", "each byte a0 to ff that belongs to no character",
-        "a byte 80 to 9f by itself leaves nothing",
+        *STATUSES, *OF_SHOWN, *CUT_OFF, "all other control characters from 00 to 1f", "del (7f) and the characters " + C1, "is broken becomes u+fffd", "each byte 80 to ff that belongs to no character",
+        "the byte 9c ends no string",
         "also u+007f to u+009f", "as <u+202e>: its number in base 16", "written as <u+003c>", "what sgr {hidden} hides, until 28 or 0", "hides (sgr {hidden}), until 28 or 0", "u+200d between two emoji", "u+200c after a virama", "u+200b between letters",
         "u+fe0e and u+fe0f after an emoji", "erased, by ed 2 or by ed 0 at its first cell (as", "table 3-7",
     ],

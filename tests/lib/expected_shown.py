@@ -19,7 +19,7 @@ SHOWN_ROWS = [
     ("a line longer than the screen", b"a" * 5000 + b"\nb\n", b"a" * 5000 + b"\nb\n"),
     ("a line as long as a row", b"a" * 80 + b"\r\nb\r\n", b"a" * 80 + b"\nb\n"),
     ("a wide character for which the row has no room", b"a" * 79 + "漢\n".encode(), b"a" * 79 + "漢\n".encode()),
-    ("a row that went on and is rewritten", b"a" * 81 + b"\x1b[1;80Hb\x1b[2Hc", b"a" * 79 + b"b\nc\n"),
+    ("a row that went on and is rewritten", b"a" * 81 + b"\x1b[1;80Hb\x1b[2Hc", b"a" * 79 + b"bc\n"),
     ("a row that went on and is erased", b"a" * 81 + b"\x1b[1;9H\x1b[K", b"a" * 8 + b"\na\n"),
     ("a row in which the one above went on, erased by EL 0", b"a" * 81 + b"\r\x1b[Kb", b"a" * 80 + b"\nb\n"),
     ("by EL 2", b"a" * 81 + b"\x1b[2K\rb", b"a" * 80 + b"\nb\n"),

@@ -27,16 +27,27 @@ pub struct ShownOptions {
     pub reserved: [u8; RESERVED_SHOWN],
 }
 
-/// A new log on the heap.
-fn boxed(alloc: Global, options: &ShownOptions) -> Option<Box<ShownLog>>
-    ensures { IfSome result (λ held. IsOpened ⟦<Memory as Sink>⟧ options.now.columns options.now.rows options.now.form
-        options.now.styling (Some held.value)) }
+/// A new log, of which nothing has come, by these options.
+fn log_by(alloc: Global, options: &ShownOptions) -> Option<ShownLog>
+    ensures { IfSome result (λ log. IsOpened ⟦<Memory as Sink>⟧ options.now.columns options.now.rows options.now.form
+        options.now.styling (Some log)) }
 {
     let Some(size) = size_at(options.columns, options.rows) else {
         return None;
     };
     let form = form_at(options.form, options.styling);
-    let Ok(held) = Box::new(alloc, ShownLog::new(alloc, size, form)) else {
+    Some(ShownLog::new(alloc, size, form))
+}
+
+/// One on the heap.
+fn boxed(alloc: Global, options: &ShownOptions) -> Option<Box<ShownLog>>
+    ensures { IfSome result (λ held. IsOpened ⟦<Memory as Sink>⟧ options.now.columns options.now.rows options.now.form
+        options.now.styling (Some held.value)) }
+{
+    let Some(log) = log_by(alloc, options) else {
+        return None;
+    };
+    let Ok(held) = Box::new(alloc, log) else {
         return None;
     };
     Some(held)

@@ -3,7 +3,7 @@
 #![cfg(feature = "screen")]
 
 use ansi_proved::screen::{Action, Button, CannotOpen, Cell, Color, Encoding, Event, Held, Key, Mouse, Move, Pad, Part, Place, Screen, Shape, Style};
-use ansi_proved::screen::{shown, CannotShow, Form, ShownLog};
+use ansi_proved::screen::{self, CannotShow, Form, ShownLog};
 use ansi_proved::screen::{Answers, Colors, Rgb, Tracking, Wheel};
 use ansi_proved::{to_html, Styling};
 use std::collections::HashSet;
@@ -291,7 +291,7 @@ fn no_screen_of_such_a_size() {
 fn shown_logs() {
     let log = b"[COLUMNS=\"4\" LINES=\"2\"]\n10%\r\x1b[1mabcdef\xff\n<";
     let text = "[COLUMNS=\"4\" LINES=\"2\"]\nabcdef\u{fffd}\n<\n";
-    assert_eq!(shown(b" 10%\r 50%\r100%\n", Form::Text).unwrap(), "100%\n");
+    assert_eq!(screen::shown(b" 10%\r 50%\r100%\n", Form::Text).unwrap(), "100%\n");
     for size in 1..=log.len() {
         let mut shown = ShownLog::new(Form::Text).unwrap();
         for piece in log.chunks(size) {
@@ -299,9 +299,9 @@ fn shown_logs() {
         }
         assert_eq!(shown.end().unwrap(), text);
     }
-    assert_eq!(shown("a\u{202e}".as_bytes(), Form::Safe).unwrap(), "a<U+202E>\n");
+    assert_eq!(screen::shown("a\u{202e}".as_bytes(), Form::Safe).unwrap(), "a<U+202E>\n");
     let html = "<span class=\"ansi-bold\">&lt;</span>\n";
-    assert_eq!(shown(b"\x1b[1m<", Form::Html(Styling::Classes)).unwrap(), html);
+    assert_eq!(screen::shown(b"\x1b[1m<", Form::Html(Styling::Classes)).unwrap(), html);
     let mut small = ShownLog::with_size(Form::Text, 2, 1).unwrap();
     small.feed(b"abc").unwrap();
     assert_eq!(small.end().unwrap(), "abc\n");

@@ -20,7 +20,7 @@ def c_cases(room, archive):
     if not tool:
         yield left_out("gcc")
         return
-    path = "%s/shown" % room
+    path = "%s/shown_caller" % room
     command = [tool, "-std=c11", *WARNINGS, CALLER, archive, *WRAPPED, "-o", path]
     yield "gcc takes ansi_shown.h", failure(run(command))
     yield "what it compiled finds what it wants", failure(run([path]))

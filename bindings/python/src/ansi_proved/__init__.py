@@ -3,10 +3,10 @@ r"""Terminal output as clean text, HTML, events or a screen, by a proved library
     strip(text)       the text, with no escapes: strip("\x1b[31mred\x1b[0m <b>") is "red <b>"
     strip(text, lf=True)    without a carriage return before a line feed: strip("one\r\n", lf=True) is "one\n"
     safe(text)        text that hides nothing: safe("\x1b[31ma\u202eb") is "a<U+202E>b"
-    shown(text)       the text that a screen shows, as of progress bars: shown("50%\r100%\n") is "100%\n"; shown_of(stream) in pieces
+    shown(text)       the text that a screen shows, as of progress bars: shown("50%\r100%\n") is "100%\n"
     to_html(text)     its HTML, to paste after <pre> and a newline: to_html("\x1b[1mhi") is '<span style="font-weight:bold;">hi</span>'
     page(text)        a whole page of it; stylesheet() the rules of HTML by classes
-    text_of(stream), html_of(stream)    the same of a stream in pieces, such as a file, piece by piece
+    text_of(stream), html_of(stream)    the same of a stream in pieces, such as a file, piece by piece; shown_of(stream) at its end
     events(stream)    its events, named tuples: Text, Execute, Csi, Esc, Osc, Hook, Put, Unhook (any: Event); Events().feed(piece), end()
     Screen(80, 24)    a terminal's screen, to feed and to look at, cell by cell
     color_rgb(196)    the red, green and blue of one of xterm's 256 colours: (255, 0, 0)

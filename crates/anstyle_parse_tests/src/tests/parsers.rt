@@ -179,8 +179,8 @@ fn texts_at_every_cut(rt: HostRuntime) {
 #[test]
 fn logs_at_every_cut(rt: HostRuntime) {
     let stream = b"M\xFCA\x1B_k\xA0\x07B\xE2\x82\xA3\xE2\xBF\xF5\x1B]\xFF\x07\xC3";
-    let want = "print U+004D\nprint U+FFFD\nprint U+0041\nprint U+0042\nprint U+20A3\n\
-        print U+FFFD\nprint U+FFFD\nosc_dispatch true FF\nprint U+FFFD\n";
+    let want = "print U+004D\nprint U+FFFD\nprint U+0041\nesc_dispatch - false 5C\nprint U+0042\n\
+        print U+20A3\nprint U+FFFD\nprint U+FFFD\nosc_dispatch true FF\nprint U+FFFD\n";
     for cut in 0..stream.len() + 1 {
         let (first, second) = stream.split_at(cut);
         assert!(rt; lines_of_log(first, second).as_str() == want);

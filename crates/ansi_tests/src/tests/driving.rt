@@ -1,11 +1,13 @@
-//! What `strip` leaves of DEL and of U+0080 to U+009F, and what `strip_inert` does: rows worked by hand.
+//! What `strip` leaves of DEL, of U+0080 to U+009F and of a string that 9C ends, and what `strip_inert` does: rows
+//! worked by hand.
 use super::{assert_answer, assert_bytes};
 use ansi_strip::{strip, strip_inert};
 use anstyle_parse::canon::{Fault, FromRead, FromWrite};
 use std::process::Abort;
 
 /// Bytes, what `strip` leaves of them, and what `strip_inert` does.
-const ROWS: [(&[u8], &[u8], &[u8]); 6] = [
+const ROWS: [(&[u8], &[u8], &[u8]); 7] = [
+    (b"\x1BPqA\x9CB", b"B", b"B"),
     (b"\x7F\x80\x9C\xC2\x80", b"\x7F\xC2\x80", b""),
     (b"\xC2\x9Bc", b"\xC2\x9Bc", b"c"),
     (

@@ -311,8 +311,9 @@ class Calls(unittest.TestCase):
         self.assertEqual(ansi_proved.shown("abc\r\x1b[X", 2, 2), "ab\n")
         self.assertEqual(ansi_proved.shown(100 * "\x1b[24Hx\x1bc"), 100 * (23 * "\n" + "x\n"))
         self.assertEqual(ansi_proved.shown("abc", columns=2, rows=5), "abc\n")
-        self.assertRaisesRegex(ValueError, "^a screen has 2 to 1000 columns and 1 to 1000 rows, and not 1x24$", ansi_proved.shown, "a", 1)
+        self.assertRaisesRegex(ValueError, "^a screen has 2 to 1000 columns and 1 to 1000 rows, and not 1x24$", ansi_proved.shown, "a", 1, 24)
         self.assertRaisesRegex(TypeError, "^columns and rows are int, and not int and str$", ansi_proved.shown, "a", 80, "24")
+        self.assertRaisesRegex(TypeError, "^columns and rows are int, and not int and NoneType$", ansi_proved.shown, "a", 80)
         self.assertRaises(TypeError, ansi_proved.shown, 5)
 
     def test_what_is_refused(self):

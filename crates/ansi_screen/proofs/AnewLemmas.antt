@@ -1,19 +1,21 @@
 -- A row that is written anew: what it showed before is overwritten, and the rest is erased.
-use Rattle.std.proofs.Common.{◌≡◌, ℕ, zero, suc, ◌+◌, ◌-◌, ◌*◌, ◌<◌, ◌≤◌, Bool, true, false, ◌&&◌, List, [], ◌∷◌, ◌++◌, length, take, drop, set, refl, ap, sym, ◌∙◌, subst, arith}
-use Rattle.std.specs.Prelude.{min, nat_lt, ◌==◌, replicate, if◌then◌else◌, None}
-use Rattle.std.proofs.lemmas.Bool.{and_parts, eqb-true}
+use Rattle.std.proofs.Common.{◌≡◌, ℕ, zero, suc, ◌+◌, ◌-◌, ◌*◌, ◌<◌, ◌≤◌, Bool, true, false, ◌&&◌, List, [], ◌∷◌, ◌++◌, length, take, drop, set, refl, ap, ap₂, sym, ◌∙◌, subst, arith}
+use Rattle.std.specs.Prelude.{min, nat_lt, ◌==◌, replicate, if◌then◌else◌, Option, None}
+use Rattle.std.proofs.lemmas.Bool.{and_parts, eqb-true, le-leb}
 use Rattle.std.proofs.lemmas.List.{take-append-drop, drop-drop}
 use Rattle.std.proofs.Math.Nat.{mul-le-mul_right}
 use borrow.Author.Tests.{ltb-true, ltb-false, eqb-false}
 use Rattle.anstyle_parse.specs.Stream.Call.{print}
 use Rattle.ansi_screen.specs.declared.cell.Cell.{Cell}
 use Rattle.ansi_screen.specs.Cells.{emptied, cell_at, cut, change, erased, marked_before, going_on}
-use Rattle.ansi_screen.specs.Display.{Display, here, row_start, row_end}
+use Rattle.ansi_screen.specs.Display.{Display, Picture, here, row_start, row_end}
+use Rattle.ansi_screen.specs.History.{Kept, with_left}
+use Rattle.ansi_screen.specs.State.{State}
 use Rattle.ansi_screen.specs.Moves.{to_column, settled}
 use Rattle.ansi_screen.specs.Edits.{space, with_cells, erased_part, erased_line, erases_first}
 use Rattle.ansi_screen.specs.Widths.{is_shown, columns}
 use Rattle.ansi_screen.specs.Print.{glyph, wrapped, put, marked, shown, drawn, draws, printed}
-use Rattle.ansi_screen.specs.After.{State, function_of, is_known, edited, controlled, sequenced, is_repeat, executed, after, after_all}
+use Rattle.ansi_screen.specs.After.{function_of, is_known, edited, controlled, sequenced, is_repeat, executed, after, after_all}
 use Rattle.ansi_screen.specs.Reachable.{IsScreen}
 use Rattle.ansi_screen.specs.Laws.{carriage_return, erase_rest, printing, text_columns}
 use Rattle.ansi_screen.proofs.PairLemmas.{length-cut, length-run}
@@ -23,6 +25,7 @@ use Rattle.ansi_screen.proofs.RunLemmas.{right_at, cut-on, cut-off}
 use Rattle.ansi_screen.proofs.GoingLemmas.{going-twice, going-marked, going-right, last-set}
 use Rattle.ansi_screen.proofs.KeptLemmas.{kept-above_at, kept-column, row_end-inside}
 use Rattle.ansi_screen.proofs.KeptCalls.{columns-few, kept-printed}
+use Rattle.ansi_screen.proofs.LeavingTable.{again-leaves}
 use Rattle.ansi_screen.proofs.RowLemmas.{Same, same-refl, same-sym, same-trans, IsFree, same-set, same-cuts, marked-behind, marked-front, marked-free, same-going_on, going_on-free, same-both, in_row, drawn-if, room_by, over_by, put_by, marked-by, put-by, row_end-free, room-free, over-same, over-front, over-free, over-inside, Wrote, printed-wrote}
 
 -- Lists of cells that differ between two places, at the second of which a row ends, and in whether that row goes on.
@@ -177,7 +180,7 @@ module _ (d : Display) (xs ys : List Cell) (screen_xs : IsScreen (with_cells xs 
       }
 
   put-alike : (n c : ℕ) → 1 ≤ n → n ≤ 2 → d.cursor.column + n ≤ d.width
-      → Alike n d (put n c (wrapped n (with_cells xs d))) (put n c (wrapped n (with_cells ys d)))
+      → Alike n d (put n c (wrapped n (with_cells xs d)).display) (put n c (wrapped n (with_cells ys d)).display)
   put-alike n c some few fits =
       let t : Bool = d.inserts in
       let there : here d + n ≡ row_start d + (d.cursor.column + n) = omega arith in
@@ -215,7 +218,7 @@ module _ (d : Display) (xs ys : List Cell) (screen_xs : IsScreen (with_cells xs 
       }
 
   shown-alike : (c : ℕ) (t : Bool) → (columns c == 0) ≡ t → d.cursor.column + columns c ≤ d.width
-      → Alike (columns c) d (shown c (with_cells xs d)) (shown c (with_cells ys d))
+      → Alike (columns c) d (shown c (with_cells xs d)).display (shown c (with_cells ys d)).display
   unfolding shown
   shown-alike c true is fits = rw is (marked-alike (columns c) c _ refl)
   shown-alike c false is fits =
@@ -223,12 +226,12 @@ module _ (d : Display) (xs ys : List Cell) (screen_xs : IsScreen (with_cells xs 
       rw is (put-alike (columns c) c (omega arith) (columns-few c _ _ refl refl) fits)
 
   printed-alike : (c : ℕ) (t : Bool) → is_shown c ≡ t → d.cursor.column + columns c ≤ d.width
-      → Alike (columns c) d (printed c (with_cells xs d)) (printed c (with_cells ys d))
+      → Alike (columns c) d (printed c (with_cells xs d)).display (printed c (with_cells ys d)).display
   unfolding printed
   printed-alike c true is fits =
       let character : ℕ = if draws d.cursor.charsets then drawn c else c in
       let narrow : columns character ≡ columns c = drawn-if c (draws d.cursor.charsets) in
-      rw is (subst (λ k. Alike k d (shown character (with_cells xs d)) (shown character (with_cells ys d))) narrow
+      rw is (subst (λ k. Alike k d (shown character (with_cells xs d)).display (shown character (with_cells ys d)).display) narrow
       (shown-alike character _ refl (omega arith)))
   printed-alike c false is fits = rw is (same-alike (columns c))
 
@@ -299,60 +302,83 @@ erased-same : (d : Display) (xs ys : List Cell) → IsScreen (with_cells xs d) �
 unfolding erased_line erases_first
 erased-same d xs ys screen_xs screen_ys same free_xs free_ys = above-same d xs ys _ screen_xs screen_ys same free_xs free_ys refl
 
-after-erase : (s : State) → after erase_rest s ≡ record { display = erased_line 0 (settled s.display); last = None }
+after-erase : (s : State) → after erase_rest s ≡ record s { display = erased_line 0 (settled s.display); last = None }
 unfolding is_repeat sequenced controlled function_of is_known edited
 after-erase s = refl
 
+-- What was shown of two screens, and what they keep, is the same; and no row leaves by a character that has room.
+abbrev AreBeside : State → State → Type 0
+AreBeside s t = (s.shown ≡ t.shown) × (s.history ≡ t.history)
+
+abbrev beside_of : Display → Picture → Option Kept → State
+beside_of d p h = record { display = d; last = None; shown = p; history = h }
+
+none-leaves : (c : ℕ) (d e : Display) → e ≡ d → d.cursor.column + columns c ≤ d.width → (printed c e).left ≡ []
+none-leaves c d e is fits =
+    ap (λ (x : Display). (printed c x).left) is ∙ again-leaves c d (le-leb (d.cursor.column + columns c) d.width fits)
+
+stays-kept : (c : ℕ) (d : Display) (s : State) → s.display ≡ d → d.cursor.column + columns c ≤ d.width → (after (print c) s).history ≡ s.history
+stays-kept c d s is fits = ap (λ rows. with_left rows s.history) (none-leaves c d s.display is fits)
+
 -- A text that has room, and EL, lead from such displays to the same.
 text-same : (text : List ℕ) (d : Display) (xs ys : List Cell) (s t : State) → s.display ≡ with_cells xs d
-    → t.display ≡ with_cells ys d
+    → t.display ≡ with_cells ys d → AreBeside s t
     → IsScreen (with_cells xs d) → IsScreen (with_cells ys d) → SameBut (here d) (row_end d) xs ys
     → IsFree (here d) xs → IsFree (here d) ys
     → d.cursor.column + text_columns text ≤ d.width
     → after_all (printing text ++ erase_rest ∷ []) s ≡ after_all (printing text ++ erase_rest ∷ []) t
-text-same [] d xs ys s t is_xs is_ys screen_xs screen_ys same free_xs free_ys fits =
-    let erase : Display → State = λ e. record { display = erased_line 0 (settled e); last = None } in
+text-same [] d xs ys s t is_xs is_ys beside screen_xs screen_ys same free_xs free_ys fits =
     after-erase s
-    ∙ (ap erase is_xs
-    ∙ (ap (λ e. record { display = e; last = None }) (erased-same d xs ys screen_xs screen_ys same free_xs free_ys)
-    ∙ (ap erase (sym is_ys) ∙ sym (after-erase t))))
-text-same (c ∷ text) d xs ys s t is_xs is_ys screen_xs screen_ys same free_xs free_ys fits =
-    let next : Alike (columns c) d (printed c (with_cells xs d)) (printed c (with_cells ys d)) =
+    ∙ (ap (λ e. record s { display = erased_line 0 (settled e); last = None }) is_xs
+    ∙ (ap (λ e. record s { display = e; last = None }) (erased-same d xs ys screen_xs screen_ys same free_xs free_ys)
+    ∙ (ap₂ (λ p h. beside_of (erased_line 0 (settled (with_cells ys d))) p h) beside.0 beside.1
+    ∙ (ap (λ e. record t { display = erased_line 0 (settled e); last = None }) (sym is_ys) ∙ sym (after-erase t)))))
+text-same (c ∷ text) d xs ys s t is_xs is_ys beside screen_xs screen_ys same free_xs free_ys fits =
+    let next : Alike (columns c) d (printed c (with_cells xs d)).display (printed c (with_cells ys d)).display =
     printed-alike d xs ys screen_xs screen_ys same free_xs free_ys c _ refl (omega arith) in
     let there : Display = record d { cursor = record d.cursor { column = next.column } } in
     let column : next.column ≤ d.cursor.column + columns c = next.fits in
+    let room : d.cursor.column + columns c ≤ d.width = omega arith in
     text-same text there next.first next.second (after (print c) s) (after (print c) t)
-    (ap (printed c) is_xs ∙ next.is_first) (ap (printed c) is_ys ∙ next.is_second)
+    (ap (λ e. (printed c e).display) is_xs ∙ next.is_first) (ap (λ e. (printed c e).display) is_ys ∙ next.is_second)
+    (beside.0, stays-kept c (with_cells xs d) s is_xs room ∙ (beside.1 ∙ sym (stays-kept c (with_cells ys d) t is_ys room)))
     (subst (λ e. IsScreen e) next.is_first (kept-printed c (with_cells xs d) screen_xs))
     (subst (λ e. IsScreen e) next.is_second (kept-printed c (with_cells ys d) screen_ys))
     next.same next.free_first next.free_second (omega arith)
 
 return-place : (cells : List Cell) (column : ℕ) (d : Display)
-    → executed 0x0D (in_row cells column d) ≡ with_cells cells (to_column 0 d)
+    → (executed 0x0D (in_row cells column d)).display ≡ with_cells cells (to_column 0 d)
 unfolding executed
 return-place cells column d = refl
 
+return-stays : (s : State) → (after carriage_return s).history ≡ s.history
+unfolding executed
+return-stays s = refl
+
 -- What was printed before, on the row, is lost.
 before-lost : (before text : List ℕ) (d : Display) (cells : List Cell) (column : ℕ) (s t : State)
-    → s.display ≡ in_row cells column d → t.display ≡ d
+    → s.display ≡ in_row cells column d → t.display ≡ d → AreBeside s t
     → IsScreen (in_row cells column d) → IsScreen d → Same (row_start d) (row_end d) cells d.cells
     → column + text_columns before ≤ d.width → text_columns text ≤ d.width
     → after_all (printing before ++ carriage_return ∷ (printing text ++ erase_rest ∷ [])) s ≡ after_all (carriage_return ∷ (printing text ++ erase_rest ∷ [])) t
-before-lost [] text d cells column s t is is_t screen screen_d same room fits =
+before-lost [] text d cells column s t is is_t beside screen screen_d same room fits =
     let first : min 0 (d.width - 1) ≡ 0 = omega arith in
     let place : row_start d ≡ here (to_column 0 d) = omega arith in
     text-same text (to_column 0 d) cells d.cells (after carriage_return s) (after carriage_return t)
-    (ap (executed 0x0D) is ∙ return-place cells column d) (ap (executed 0x0D) is_t ∙ return-place d.cells d.cursor.column d)
+    (ap (λ e. (executed 0x0D e).display) is ∙ return-place cells column d)
+    (ap (λ e. (executed 0x0D e).display) is_t ∙ return-place d.cells d.cursor.column d)
+    (beside.0, return-stays s ∙ (beside.1 ∙ sym (return-stays t)))
     (kept-column 0 (in_row cells column d) screen) (kept-column 0 d screen_d)
     (subst (λ k. SameBut k (row_end d) cells d.cells) place
     (same-first (row_start d) (row_end d) cells d.cells (omega (arith, screen_d.sized.two_columns)) same))
     (subst (λ k. IsFree k cells) place (screen.whole.rows_begin d.cursor.row))
     (subst (λ k. IsFree k d.cells) place (screen_d.whole.rows_begin d.cursor.row)) (omega arith)
-before-lost (c ∷ before) text d cells column s t is is_t screen screen_d same room fits =
-    let next : Wrote (columns c) (in_row cells column d) (printed c (in_row cells column d)) =
+before-lost (c ∷ before) text d cells column s t is is_t beside screen screen_d same room fits =
+    let next : Wrote (columns c) (in_row cells column d) (printed c (in_row cells column d)).display =
     printed-wrote c (in_row cells column d) _ refl screen (omega arith) in
     let there : next.column ≤ column + columns c = next.fits in
-    before-lost before text d next.cells next.column (after (print c) s) t (ap (printed c) is ∙ next.is) is_t
+    before-lost before text d next.cells next.column (after (print c) s) t (ap (λ e. (printed c e).display) is ∙ next.is) is_t
+    (beside.0, stays-kept c (in_row cells column d) s is (omega arith) ∙ beside.1)
     (subst (λ e. IsScreen e) next.is (kept-printed c (in_row cells column d) screen)) screen_d
     (same-trans (row_start d) (row_end d) next.cells cells d.cells next.same same) (omega arith) fits
 
@@ -361,5 +387,5 @@ pub written-anew : (s : State) (before text : List ℕ) → IsScreen s.display
     → text_columns text ≤ s.display.width
     → after_all (printing before ++ carriage_return ∷ (printing text ++ erase_rest ∷ [])) s ≡ after_all (carriage_return ∷ (printing text ++ erase_rest ∷ [])) s
 written-anew s before text screen room fits =
-    before-lost before text s.display s.display.cells s.display.cursor.column s s refl refl screen screen
+    before-lost before text s.display s.display.cells s.display.cursor.column s s refl refl (refl, refl) screen screen
     (same-refl (row_start s.display) (row_end s.display) s.display.cells) room fits

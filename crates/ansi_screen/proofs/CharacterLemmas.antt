@@ -23,10 +23,9 @@ use Rattle.ansi_screen.specs.Edits.{swapped, main_screen}
 use Rattle.ansi_screen.specs.Text.{first_rows}
 use Rattle.ansi_screen.specs.Laws.{is_wrapping}
 use Rattle.ansi_screen.specs.Leaving.{rows_left, all_left}
-use Rattle.ansi_screen.proofs.LeavingTable.{leaving, before_escape, before_leaving}
-use Rattle.ansi_screen.proofs.LeftLemmas.{rows_left-is}
-use Rattle.ansi_screen.proofs.KeptLemmas.{Step, erase, join, delete, insert, rows_back, rows_on, write, add_mark, to_other, back, renew, drawn_if}
-use Rattle.ansi_screen.proofs.Walk.{MayBe, MayRepeat, as-it-is, walk}
+use Rattle.ansi_screen.proofs.LeavingTable.{leaving, before_escape, before_leaving, rows_left-is}
+use Rattle.ansi_screen.proofs.KeptLemmas.{Change, erase, join, delete, insert, rows_back, rows_on, write, add_mark, to_other, back, renew, drawn_if}
+use Rattle.ansi_screen.proofs.Walk.{MayBe, MayRepeat, walk}
 
 -- a character that may be printed and is shown; such marks, cells and displays
 abbrev pub IsGood : ℕ → Type 0
@@ -193,30 +192,30 @@ pub good-new : (columns rows : ℕ) → HasGood (fresh columns rows)
 good-new columns rows =
     (good-replicate (rows * columns) (blank plain) (good-blank plain), good-replicate (rows * columns) (blank plain) (good-blank plain))
 
--- whatever step a screen takes
-good-step : (d e : Display) → Step IsCharacter ⊤ d e → HasGood d → HasGood e
+-- whatever change
+good-turn : (d e : Display) → Change IsCharacter ⊤ d e → HasGood d → HasGood e
 unfolding softly_reset
-good-step d e (erase start end within) s =
+good-turn d e (erase start end within) s =
     (good-change start end (erased (space d)) d.cells (λ run are. good-replicate (length run) (space d) (good-blank d.cursor.style)) s.0, s.1)
-good-step d e (join on end) s = (good-going_on on end d.cells s.0, s.1)
-good-step d e (delete n inside) s =
+good-turn d e (join on end) s = (good-going_on on end d.cells s.0, s.1)
+good-turn d e (delete n inside) s =
     (good-change (here d) (row_end d) (moved_back n (space d)) _ (good-back n (space d) (good-blank d.cursor.style)) (good-cut _ d.cells s.0), s.1)
-good-step d e (insert n inside) s =
+good-turn d e (insert n inside) s =
     (good-change (here d) (row_end d) (moved_on n (space d)) _ (good-on n (space d) (good-blank d.cursor.style)) (good-cut _ d.cells s.0), s.1)
-good-step d e (rows_back n first last within) s =
+good-turn d e (rows_back n first last within) s =
     (good-within (first * d.width) (last * d.width) (moved_back (n * d.width) (space d)) d.cells (good-back (n * d.width) (space d) (good-blank d.cursor.style)) s.0, s.1)
-good-step d e (rows_on n first last within) s =
+good-turn d e (rows_on n first last within) s =
     (good-within (first * d.width) (last * d.width) (moved_on (n * d.width) (space d)) d.cells (good-on (n * d.width) (space d) (good-blank d.cursor.style)) s.0, s.1)
-good-step d e (write n c drawing may is wide some few fits) s = (
+good-turn d e (write n c drawing may is wide some few fits) s = (
   good-change (here d) (here d + n) (λ run. glyph n (drawn_if drawing c) d.cursor.style d.link) d.cells
       (λ run are. good-glyph n (drawn_if drawing c) d.cursor.style d.link _ refl (drawn-if_good c drawing (may, is))) s.0,
   s.1,
 )
-good-step d e (add_mark c drawing may is none) s = (good-before (drawn_if drawing c) (here d) d.cells (drawn-if_good c drawing (may, is)) s.0, s.1)
-good-step d e (to_other may) s = (good-replicate (length d.hidden) (space d) (good-blank d.cursor.style), s.0)
-good-step d e back s = (s.1, good-replicate (length d.cells) (blank plain) (good-blank plain))
-good-step d e renew s = good-new d.width d.height
-good-step d e step s = s
+good-turn d e (add_mark c drawing may is none) s = (good-before (drawn_if drawing c) (here d) d.cells (drawn-if_good c drawing (may, is)) s.0, s.1)
+good-turn d e (to_other may) s = (good-replicate (length d.hidden) (space d) (good-blank d.cursor.style), s.0)
+good-turn d e back s = (s.1, good-replicate (length d.cells) (blank plain) (good-blank plain))
+good-turn d e renew s = good-new d.width d.height
+good-turn d e change s = s
 
 last-if : (c : ℕ) (t : Bool) → is_character c ≡ true → IsGoodLast (if t then Some c else None)
 last-if c true is = is
@@ -237,7 +236,7 @@ good-last call is = tt
 
 pub good-after : (call : Call) (s : State) → PrintsCharacter call → IsGoodState s → IsGoodState (after call s)
 good-after call s is good = record {
-  display = (walk IsCharacter ⊤ HasGood good-step s.display.shown (λ history. history) as-it-is call s (may-print call is) good.last).keeps good.display;
+  display = walk IsCharacter ⊤ HasGood good-turn call s.last s.display (may-print call is) good.last good.display;
   last = good-last call is;
 }
 

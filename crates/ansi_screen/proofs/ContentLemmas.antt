@@ -25,8 +25,8 @@ use Rattle.anstyle_parse.specs.Stream.Call.{Call}
 use Rattle.ansi_screen.specs.Modes.{softly_reset}
 use Rattle.ansi_screen.proofs.CharacterLemmas.{at-good, drawing-good}
 use Rattle.ansi_screen.proofs.ColorLemmas.{selected-colors}
-use Rattle.ansi_screen.proofs.KeptLemmas.{Step, select, save, restore, erase, join, delete, insert, rows_back, rows_on, write, add_mark, narrow, to_other, back, soften, renew, drawn_if, kept-step}
-use Rattle.ansi_screen.proofs.Walk.{as-it-is, walk}
+use Rattle.ansi_screen.proofs.KeptLemmas.{Change, select, save, restore, erase, join, delete, insert, rows_back, rows_on, write, add_mark, narrow, to_other, back, soften, renew, drawn_if, kept-change}
+use Rattle.ansi_screen.proofs.Walk.{walk}
 use Rattle.ansi_screen.proofs.KeptCalls.{Any, any-call, any-repeat, kept-after}
 
 -- the contents of a display, part by part
@@ -222,25 +222,25 @@ holds-new width height = (
   λ main. (blank-all (height * width), refl),
 )
 
--- whatever step a screen takes
-holds-step : (d e : Display) → Step Any ⊤ d e → IsScreen d → Holds d → Holds e
+-- whatever change
+holds-change : (d e : Display) → Change Any ⊤ d e → IsScreen d → Holds d → Holds e
 unfolding softly_reset
-holds-step d e (select groups) screen s = (s.0, s.1, selected-colors groups d.cursor.style s.2, s.3, s.4, s.5, s.6)
-holds-step d e save screen s = (s.0, s.1, s.2, s.2, s.4, s.5, s.6)
-holds-step d e (restore row within) screen s = (s.0, s.1, s.3, s.3, s.4, s.5, s.6)
-holds-step d e (erase start end within) screen s =
+holds-change d e (select groups) screen s = (s.0, s.1, selected-colors groups d.cursor.style s.2, s.3, s.4, s.5, s.6)
+holds-change d e save screen s = (s.0, s.1, s.2, s.2, s.4, s.5, s.6)
+holds-change d e (restore row within) screen s = (s.0, s.1, s.3, s.3, s.4, s.5, s.6)
+holds-change d e (erase start end within) screen s =
     holds-cells (change start end (erased (space d)) d.cells) d
     (cells-change start end (erased (space d)) d.cells (λ run are. cells-replicate (length run) (space d) (cell-blank d.cursor.style s.2)) s.0) s
-holds-step d e (join on end) screen s = holds-cells (going_on on end d.cells) d (cells-going_on on end d.cells s.0) s
-holds-step d e (delete n inside) screen s =
+holds-change d e (join on end) screen s = holds-cells (going_on on end d.cells) d (cells-going_on on end d.cells s.0) s
+holds-change d e (delete n inside) screen s =
     holds-cells _ d (cells-change (here d) (row_end d) (moved_back n (space d)) _ (cells-back n (space d) (cell-blank d.cursor.style s.2)) (cells-cut _ d.cells s.0)) s
-holds-step d e (insert n inside) screen s =
+holds-change d e (insert n inside) screen s =
     holds-cells _ d (cells-change (here d) (row_end d) (moved_on n (space d)) _ (cells-on n (space d) (cell-blank d.cursor.style s.2)) (cells-cut _ d.cells s.0)) s
-holds-step d e (rows_back n first last within) screen s =
+holds-change d e (rows_back n first last within) screen s =
     holds-cells _ d (cells-within (first * d.width) (last * d.width) (moved_back (n * d.width) (space d)) d.cells (cells-back (n * d.width) (space d) (cell-blank d.cursor.style s.2)) s.0) s
-holds-step d e (rows_on n first last within) screen s =
+holds-change d e (rows_on n first last within) screen s =
     holds-cells _ d (cells-within (first * d.width) (last * d.width) (moved_on (n * d.width) (space d)) d.cells (cells-on (n * d.width) (space d) (cell-blank d.cursor.style s.2)) s.0) s
-holds-step d e (write n c drawing may is wide some few fits) screen s = (
+holds-change d e (write n c drawing may is wide some few fits) screen s = (
   cells-change (here d) (here d + n) (λ run. glyph n (drawn_if drawing c) d.cursor.style d.link) d.cells
       (λ run are. cells-glyph n (drawn_if drawing c) d.cursor.style d.link _ refl (drawn-if c drawing is) wide some few s.2) s.0,
   s.1,
@@ -250,16 +250,16 @@ holds-step d e (write n c drawing may is wide some few fits) screen s = (
   s.5,
   s.6,
 )
-holds-step d e (add_mark c drawing may is none) screen s =
+holds-change d e (add_mark c drawing may is none) screen s =
     holds-cells _ d (cells-marked d.width (drawn_if drawing c) (here d) d.cells (drawn-if c drawing is, none) screen.whole s.0) s
-holds-step d e (narrow top bottom row column order inside within) screen s = (s.0, s.1, s.2, s.3, s.4, inl order, s.6)
-holds-step d e (to_other may) screen s =
+holds-change d e (narrow top bottom row column order inside within) screen s = (s.0, s.1, s.2, s.3, s.4, inl order, s.6)
+holds-change d e (to_other may) screen s =
     (cells-replicate (length d.hidden) (space d) (cell-blank d.cursor.style s.2), s.0, s.2, (tt, tt), s.2, s.5, λ main. cc main)
-holds-step d e back screen s =
+holds-change d e back screen s =
     (s.1, cells-replicate (length d.cells) (blank plain) (cell-blank plain (tt, tt)), s.2, s.4, (tt, tt), s.5, λ main. (blank-all (length d.cells), refl))
-holds-step d e soften screen s = (s.0, s.1, (tt, tt), (tt, tt), s.4, inr (refl, refl), s.6)
-holds-step d e renew screen s = holds-new d.width d.height
-holds-step d e step screen s = s
+holds-change d e soften screen s = (s.0, s.1, (tt, tt), (tt, tt), s.4, inr (refl, refl), s.6)
+holds-change d e renew screen s = holds-new d.width d.height
+holds-change d e change screen s = s
 
 -- part by part, and as the record
 parts-of : (d : Display) → HasContents d → Holds d
@@ -273,8 +273,8 @@ contents-new width height = of-parts (fresh width height) (holds-new width heigh
 
 pub contents-after : (call : Call) (s : State) → IsScreen s.display → HasContents s.display → HasContents (after call s).display
 contents-after call s screen is = of-parts (after call s).display
-    ((walk Any ⊤ (λ d. IsScreen d × Holds d) (λ d e step s. (kept-step Any ⊤ d e step s.0, holds-step d e step s.0 s.1)) s.display.shown (λ history. history) as-it-is
-    call s (any-call call) (any-repeat s.last)).keeps (screen, parts-of s.display is)).1
+    (walk Any ⊤ (λ d. IsScreen d × Holds d) (λ d e change s. (kept-change Any ⊤ d e change s.0, holds-change d e change s.0 s.1))
+    call s.last s.display (any-call call) (any-repeat s.last) (screen, parts-of s.display is)).1
 
 pub contents-after_all : (calls : List Call) (s : State) → IsScreen s.display → HasContents s.display → HasContents (after_all calls s).display
 contents-after_all [] s screen is = is

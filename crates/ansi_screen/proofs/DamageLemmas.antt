@@ -1,5 +1,5 @@
 -- What an edit can change is noted.
-use Rattle.std.proofs.Common.{◌≡◌, ◌≢◌, ◌⊎◌, inl, inr, ℕ, suc, ◌+◌, ◌-◌, ◌*◌, ◌<◌, ◌≤◌, Bool, true, false, ◌&&◌, List, ◌++◌, length, take, drop, set, refl, ap, sym, ◌∙◌, subst, arith}
+use Rattle.std.proofs.Common.{◌≡◌, ◌≢◌, ◌⊎◌, inl, inr, ℕ, suc, ◌+◌, ◌-◌, ◌*◌, ◌<◌, ◌≤◌, Bool, true, false, ◌&&◌, List, [], ◌∷◌, ◌++◌, length, take, drop, set, refl, ap, sym, ◌∙◌, subst, arith}
 use Rattle.std.specs.Prelude.{Option, None, Some, min, nat_lt, replicate, slice_set}
 use Rattle.std.proofs.lemmas.List.{get_or-take, get_or-drop, get_or-set_same, get_or-set_other, length-set, length-replicate, length-append, length-take-le, length-drop, length-map, same_lists, get_or_default, get_or-replicate, take-replicate, drop-replicate, replicate-append-replicate, places}
 use Rattle.std.proofs.lemmas.Bool.{cases_Bool}
@@ -14,12 +14,12 @@ use Rattle.ansi_screen.specs.Cells.{blank, printed_cell, emptied, is_right, cell
 use Rattle.ansi_screen.specs.Print.{glyph}
 use Rattle.ansi_screen.specs.Runs.{glyphs, with_glyphs}
 use Rattle.ansi_screen.specs.Edits.{with_cells}
-use Rattle.ansi_screen.specs.Display.{Display, IsSized, most_columns}
-use Rattle.ansi_screen.specs.Damage.{Noted, HasHistory, no_span, whole_span, span_at, joined, IsOutside, IsDisplay, AreEmptyBeside}
+use Rattle.ansi_screen.specs.Display.{IsSized, most_columns}
+use Rattle.ansi_screen.specs.State.{State, changed}
+use Rattle.ansi_screen.specs.Damage.{Noted, HasHistory, no_span, whole_span, span_at, joined, IsOutside, IsNoted, AreEmptyBeside}
 use Rattle.ansi_screen.specs.Grid.{Grid, with_list}
-use Rattle.ansi_screen.specs.History.{Kept, with_left}
+use Rattle.ansi_screen.specs.History.{Kept, kept_after, with_left}
 use Rattle.ansi_screen.specs.Reachable.{RowsBegin}
-use Rattle.ansi_screen.proofs.HistoryLemmas.{kept-columns}
 use Rattle.ansi_screen.proofs.EditLemmas.{same-erased, same-deleted}
 use Rattle.ansi_screen.proofs.PairLemmas.{length-cut, length-run, length-back, length-on, clear-cut_other}
 use Rattle.ansi_screen.proofs.RunLemmas.{put-run}
@@ -422,11 +422,11 @@ writes-all width height rows spans cells gap narrow filled high long begin =
     writes-rows width height 0 rows spans cells all narrow (omega arith) (omega (arith, high, long))
     (subst (λ n. Same n (rows * width) all cells) (sym none) (subst (λ n. Same 0 n all cells) (sym whole) same))
 
--- A display whose cells were written, as it was noted.
-pub wrote : (noted behind : Noted) (d : Display) (cells : List Cell) → IsDisplay noted d → behind.is_framed ≡ noted.is_framed
-    → Writes d.width d.height noted.spans behind.spans d.cells cells → IsDisplay behind (with_cells cells d)
+-- A screen whose cells were written, as it was noted.
+pub wrote : (noted behind : Noted) (d : State) (cells : List Cell) → IsNoted noted d → behind.is_framed ≡ noted.is_framed
+    → Writes d.display.width d.display.height noted.spans behind.spans d.display.cells cells → IsNoted behind (changed (with_cells cells) d)
 wrote noted behind d cells was framed writes =
-    let s : IsSized d = was.sized in
+    let s : IsSized d.display = was.sized in
     record {
       sized = record { two_columns = s.two_columns; columns_limit = s.columns_limit; a_row = s.a_row; rows_limit = s.rows_limit; cells_fill = writes.long ∙ s.cells_fill; hidden_fill = s.hidden_fill; tabs_fill = s.tabs_fill; cursor_row = s.cursor_row; cursor_column = s.cursor_column; saved_row = s.saved_row; saved_column = s.saved_column; hidden_row = s.hidden_row; hidden_column = s.hidden_column; margins = s.margins; margins_within = s.margins_within };
       kept = was.kept;
@@ -468,10 +468,10 @@ forgotten-rest first past spans empty none =
     ])
 
 -- the cursor in another column
-pub in-column : (noted : Noted) (column : ℕ) (d : Display) → column ≤ d.width → IsDisplay noted d
-    → IsDisplay noted (record d { cursor = record d.cursor { column = column } })
+pub in-column : (noted : Noted) (column : ℕ) (d : State) → column ≤ d.display.width → IsNoted noted d
+    → IsNoted noted (changed (λ e. record e { cursor = record e.cursor { column = column } }) d)
 in-column noted column d inside was =
-    let s : IsSized d = was.sized in
+    let s : IsSized d.display = was.sized in
     record {
       sized = record { two_columns = s.two_columns; columns_limit = s.columns_limit; a_row = s.a_row; rows_limit = s.rows_limit; cells_fill = s.cells_fill; hidden_fill = s.hidden_fill; tabs_fill = s.tabs_fill; cursor_row = s.cursor_row; cursor_column = inside; saved_row = s.saved_row; saved_column = s.saved_column; hidden_row = s.hidden_row; hidden_column = s.hidden_column; margins = s.margins; margins_within = s.margins_within };
       kept = was.kept;
@@ -485,14 +485,15 @@ kept-width width other history same kept = subst (λ n. HasHistory n history) (s
 
 -- What is kept of rows that left has the columns that it had.
 pub left-history : (width : ℕ) (rows : List (List Cell)) (history : Option Kept) → HasHistory width history → HasHistory width (with_left rows history)
-left-history width rows None has = has
-left-history width rows (Some kept) has = kept-columns rows kept ∙ has
+left-history width [] history has = has
+left-history width (row ∷ rows) None has = left-history width rows None has
+left-history width (row ∷ rows) (Some kept) has = left-history width rows (Some (kept_after row kept)) has
 
 -- other rows that left are kept
-keeping-others : (noted : Noted) (history : Option Kept) (d : Display) → HasHistory d.width history → IsDisplay noted d
-    → IsDisplay noted (record d { history = history })
+keeping-others : (noted : Noted) (history : Option Kept) (d : State) → HasHistory d.display.width history → IsNoted noted d
+    → IsNoted noted (record d { history = history })
 keeping-others noted history d has was =
-    let s : IsSized d = was.sized in
+    let s : IsSized d.display = was.sized in
     record {
       sized = record { two_columns = s.two_columns; columns_limit = s.columns_limit; a_row = s.a_row; rows_limit = s.rows_limit; cells_fill = s.cells_fill; hidden_fill = s.hidden_fill; tabs_fill = s.tabs_fill; cursor_row = s.cursor_row; cursor_column = s.cursor_column; saved_row = s.saved_row; saved_column = s.saved_column; hidden_row = s.hidden_row; hidden_column = s.hidden_column; margins = s.margins; margins_within = s.margins_within };
       kept = has;
@@ -500,18 +501,18 @@ keeping-others noted history d has was =
       damage = was.damage;
     }
 
--- A display with the cells of a grid; and one whose cells were written, as it was noted.
-abbrev pub on_grid : Grid → Display → Display
-on_grid g d = record d { width = g.width; height = g.height; cells = g.cells }
+-- A screen with the cells of a grid; and one whose cells were written, as it was noted.
+abbrev pub on_grid : Grid → State → State
+on_grid g d = changed (λ e. record e { width = g.width; height = g.height; cells = g.cells }) d
 
-module _ (noted behind : Noted) (g new hidden : Grid) (v d : Display) (is : v ≡ d)
-    (was : (hidden.width ≡ g.width) × (hidden.height ≡ g.height) × IsDisplay noted (on_grid g v)) (cells : List Cell) (now : new ≡ with_list cells g) where
+module _ (noted behind : Noted) (g new hidden : Grid) (v d : State) (is : v ≡ d)
+    (was : (hidden.width ≡ g.width) × (hidden.height ≡ g.height) × IsNoted noted (on_grid g v)) (cells : List Cell) (now : new ≡ with_list cells g) where
   abbrev Stays : Type 0
-  Stays = (hidden.width ≡ new.width) × (hidden.height ≡ new.height) × IsDisplay behind (on_grid new v)
+  Stays = (hidden.width ≡ new.width) × (hidden.height ≡ new.height) × IsNoted behind (on_grid new v)
 
-  on-new : IsDisplay behind (with_cells cells (on_grid g v)) → Stays
+  on-new : IsNoted behind (changed (with_cells cells) (on_grid g v)) → Stays
   on-new stays =
-      subst (λ (f : Grid). (hidden.width ≡ f.width) × (hidden.height ≡ f.height) × IsDisplay behind (on_grid f v)) (sym now) (was.0, was.1, stays)
+      subst (λ (f : Grid). (hidden.width ≡ f.width) × (hidden.height ≡ f.height) × IsNoted behind (on_grid f v)) (sym now) (was.0, was.1, stays)
 
   pub edits-row : (row left right : ℕ) → behind ≡ record noted { spans = slice_set noted.spans row (joined left right (span_at noted.spans row)) }
       → Writes g.width g.height noted.spans (with_columns row left right noted.spans) g.cells cells → Stays
@@ -528,7 +529,7 @@ module _ (noted behind : Noted) (g new hidden : Grid) (v d : Display) (is : v �
   -- and the cursor in another column
   pub puts-row : (row left right column : ℕ) → column ≤ g.width → behind ≡ record noted { spans = slice_set noted.spans row (joined left right (span_at noted.spans row)) }
       → Writes g.width g.height noted.spans (with_columns row left right noted.spans) g.cells cells
-      → (hidden.width ≡ new.width) × (hidden.height ≡ new.height) × IsDisplay behind (record (on_grid new v) { cursor = record v.cursor { column = column } })
+      → (hidden.width ≡ new.width) × (hidden.height ≡ new.height) × IsNoted behind (changed (λ e. record e { cursor = record e.cursor { column = column } }) (on_grid new v))
   puts-row row left right column inside is_noted writes =
       let stays : Stays = edits-row row left right is_noted writes in
       let fits : column ≤ new.width = subst (λ (f : Grid). column ≤ f.width) (sym now) inside in
@@ -538,7 +539,7 @@ module _ (noted behind : Noted) (g new hidden : Grid) (v d : Display) (is : v �
   pub leaves-rows : (past : ℕ) (rows : List (List Cell)) (history : Option Kept)
       → behind ≡ record noted { spans = take 0 noted.spans ++ (replicate (past - 0) whole_span ++ drop past noted.spans) }
       → Writes g.width g.height noted.spans (with_rows 0 past noted.spans) g.cells cells → history ≡ with_left rows v.history
-      → (hidden.width ≡ new.width) × (hidden.height ≡ new.height) × IsDisplay behind (record (on_grid new v) { history = history })
+      → (hidden.width ≡ new.width) × (hidden.height ≡ new.height) × IsNoted behind (record (on_grid new v) { history = history })
   leaves-rows past rows history is_noted writes left =
       let stays : Stays = edits-rows 0 past is_noted writes in
       let same : new.width ≡ g.width = ap (λ (f : Grid). f.width) now in
@@ -547,16 +548,16 @@ module _ (noted behind : Noted) (g new hidden : Grid) (v d : Display) (is : v �
       (stays.0, stays.1, keeping-others behind history (on_grid new v) has stays.2)
 
 -- Where all is noted, any cells and any frame will do.
-pub all-noted : (rows : ℕ) (behind : Noted) (new : Display) → behind ≡ record { spans = replicate rows whole_span; is_framed = true }
-    → rows ≡ new.height → IsSized new → HasHistory new.width new.history → length new.cells ≡ length new.shown.cells → IsDisplay behind new
+pub all-noted : (rows : ℕ) (behind : Noted) (new : State) → behind ≡ record { spans = replicate rows whole_span; is_framed = true }
+    → rows ≡ new.display.height → IsSized new.display → HasHistory new.display.width new.history → length new.display.cells ≡ length new.shown.cells → IsNoted behind new
 all-noted rows behind new noted high sized kept same = record {
   sized = sized;
   kept = kept;
   long = rw noted (length-replicate rows whole_span ∙ high);
   damage = rw (noted, high) (record {
     long = same;
-    cells = λ row column below inside out. absurd (none-outside new.width column sized.columns_limit inside
-        (subst (λ (s : Span). IsOutside s column) (get_or-replicate new.height row whole_span no_span below) out));
+    cells = λ row column below inside out. absurd (none-outside new.display.width column sized.columns_limit inside
+        (subst (λ (s : Span). IsOutside s column) (get_or-replicate new.display.height row whole_span no_span below) out));
     frame = λ is. cc is;
   });
 }

@@ -466,7 +466,7 @@ again-by c d t is may some fits =
     let room : nat_le (d.cursor.column + columns c) d.width ≡ true = le-leb (d.cursor.column + columns c) d.width fits in
     let other : (columns (character_of c d) == 0) ≡ false = ne_eqb (columns (character_of c d)) 0 (λ e. omega (arith, e, same, some)) in
     rw (room, may, other)
-    (ap (λ k. put k (character_of c d) (wrapped k d)) same ∙ put-by (columns c) (character_of c d) d d.cells t is fits)
+    (ap (λ k. put k (character_of c d) (wrapped k d).display) same ∙ put-by (columns c) (character_of c d) d d.cells t is fits)
 
 -- the display out of insert mode, where room was made for so many columns
 abbrev pub opened : ℕ → Display → Display

@@ -1,7 +1,7 @@
--- What a call does to a display, in steps of few kinds; and whatever step it takes, a screen stays one: within its sizes,
+-- What a call does to a display, in changes of few kinds; and by whatever change, a screen stays one: within its sizes,
 -- halves in pairs, and in origin mode with the cursor within the margins.
 use Rattle.std.proofs.Common.{◌≡◌, ℕ, zero, suc, ◌+◌, ◌-◌, ◌*◌, ◌<◌, ◌≤◌, Bool, true, false, List, length, refl, sym, subst, ap, ◌∙◌, arith, add-one}
-use Rattle.std.specs.Prelude.{Option, min, ◌==◌, ◌%◌, replicate, if◌then◌else◌}
+use Rattle.std.specs.Prelude.{min, ◌==◌, ◌%◌, replicate, if◌then◌else◌}
 use Rattle.std.proofs.lemmas.List.{length-replicate, length_push}
 use Rattle.std.proofs.Math.Nat.{mul-le-mul_right, suc-mul}
 use Rattle.ansi_style.specs.Style.{plain}
@@ -10,9 +10,8 @@ use Rattle.ansi_screen.specs.declared.place.Charsets.{Charsets}
 use Rattle.ansi_screen.specs.declared.place.Place.{Place}
 use Rattle.ansi_screen.specs.Cells.{blank, is_right, within, change, erased, moved_back, moved_on, deleted, inserted, going_on, marked_before}
 use Rattle.ansi_screen.specs.Display.{Display, here, row_start, row_end, home, stops, blanks, fresh, most_columns, most_rows}
-use Rattle.ansi_screen.specs.History.{Kept}
 use Rattle.ansi_screen.specs.Moves.{to_column, settled}
-use Rattle.ansi_screen.specs.Edits.{with_cells, space, row_going_on, erased_cells, renewed}
+use Rattle.ansi_screen.specs.Edits.{with_cells, space, row_going_on, erased_cells}
 use Rattle.ansi_screen.specs.Widths.{is_shown, columns, is_among}
 use Rattle.ansi_screen.specs.Ranges.{no_column, two_columns}
 use Rattle.ansi_screen.specs.Print.{glyph, drawn}
@@ -30,62 +29,61 @@ IsPlace top bottom row column relative d =
 abbrev pub drawn_if : Bool → ℕ → ℕ
 drawn_if draws c = if draws then drawn c else c
 
--- A step from a display to another one, which prints none but such characters, and where nothing `switches` brings no
+-- A change of a display to another one, which prints none but such characters, and where nothing `switches` brings no
 -- alternate screen forward. What it keeps within bounds may rest on it that the display is a screen.
-pub data Step (prints : ℕ → Type 0) (switches : Type 0) (d : Display) : Display → Type 0 where
+pub data Change (prints : ℕ → Type 0) (switches : Type 0) (d : Display) : Display → Type 0 where
   -- the cursor goes to a place; SGR, sets; DECSC, DECRC
   go : (row column : ℕ) (relative : Bool) → (IsScreen d → IsPlace d.top d.bottom row column relative d)
-      → Step prints switches d (record d { cursor = record d.cursor { row = row; column = column; is_relative = relative } })
-  select : (groups : List (List ℕ)) → Step prints switches d (with_style groups d)
-  choose : (charsets : Charsets) → Step prints switches d (with_charsets charsets d)
-  save : Step prints switches d (saving d)
+      → Change prints switches d (record d { cursor = record d.cursor { row = row; column = column; is_relative = relative } })
+  select : (groups : List (List ℕ)) → Change prints switches d (with_style groups d)
+  choose : (charsets : Charsets) → Change prints switches d (with_charsets charsets d)
+  save : Change prints switches d (saving d)
   restore : (row : ℕ) → (IsScreen d → IsPlace d.top d.bottom row d.saved.column d.saved.is_relative d)
-      → Step prints switches d (record d { cursor = record d.saved { row = row } })
+      → Change prints switches d (record d { cursor = record d.saved { row = row } })
   -- cells are erased, a row goes on or not, cells and rows are moved
-  erase : (start end : ℕ) → (IsScreen d → (start ≤ end) × (end ≤ length d.cells)) → Step prints switches d (erased_cells start end d)
-  join : (on : Bool) (end : ℕ) → Step prints switches d (with_cells (going_on on end d.cells) d)
+  erase : (start end : ℕ) → (IsScreen d → (start ≤ end) × (end ≤ length d.cells)) → Change prints switches d (erased_cells start end d)
+  join : (on : Bool) (end : ℕ) → Change prints switches d (with_cells (going_on on end d.cells) d)
   delete : (n : ℕ) → (IsScreen d → d.cursor.column < d.width)
-      → Step prints switches d (with_cells (deleted n (here d) (row_end d) (space d) d.cells) d)
+      → Change prints switches d (with_cells (deleted n (here d) (row_end d) (space d) d.cells) d)
   insert : (n : ℕ) → (IsScreen d → d.cursor.column < d.width)
-      → Step prints switches d (with_cells (inserted n (here d) (row_end d) (space d) d.cells) d)
+      → Change prints switches d (with_cells (inserted n (here d) (row_end d) (space d) d.cells) d)
   rows_back : (n first last : ℕ) → (IsScreen d → (first ≤ last) × (last ≤ d.height))
-      → Step prints switches d (with_cells (within (first * d.width) (last * d.width) (moved_back (n * d.width) (space d)) d.cells) d)
+      → Change prints switches d (with_cells (within (first * d.width) (last * d.width) (moved_back (n * d.width) (space d)) d.cells) d)
   rows_on : (n first last : ℕ) → (IsScreen d → (first ≤ last) × (last ≤ d.height))
-      → Step prints switches d (with_cells (within (first * d.width) (last * d.width) (moved_on (n * d.width) (space d)) d.cells) d)
+      → Change prints switches d (with_cells (within (first * d.width) (last * d.width) (moved_on (n * d.width) (space d)) d.cells) d)
   -- a character is printed, or a mark
   write : (n c : ℕ) (draws : Bool) → prints c → is_shown c ≡ true → columns (drawn_if draws c) ≡ n → 1 ≤ n → n ≤ 2 → d.cursor.column + n ≤ d.width
-      → Step prints switches d (record d {
+      → Change prints switches d (record d {
         cells = change (here d) (here d + n) (λ run. glyph n (drawn_if draws c) d.cursor.style d.link) d.cells;
         cursor = record d.cursor { column = d.cursor.column + n };
       })
   add_mark : (c : ℕ) (draws : Bool) → prints c → is_shown c ≡ true → columns (drawn_if draws c) ≡ 0
-      → Step prints switches d (with_cells (marked_before (drawn_if draws c) (here d) d.cells) d)
+      → Change prints switches d (with_cells (marked_before (drawn_if draws c) (here d) d.cells) d)
   -- margins, with the cursor in its place; tabs; the alternate screen and back; DECSTR, RIS
   narrow : (top bottom row column : ℕ) → top + 2 ≤ bottom → bottom ≤ d.height → (IsScreen d → IsPlace top bottom row column d.cursor.is_relative d)
-      → Step prints switches d (record d { top = top; bottom = bottom; cursor = record d.cursor { row = row; column = column } })
-  stop_at : (tabs : List Bool) → length tabs ≡ length d.tabs → Step prints switches d (record d { tabs = tabs })
-  to_other : switches → Step prints switches d (record d {
+      → Change prints switches d (record d { top = top; bottom = bottom; cursor = record d.cursor { row = row; column = column } })
+  stop_at : (tabs : List Bool) → length tabs ≡ length d.tabs → Change prints switches d (record d { tabs = tabs })
+  to_other : switches → Change prints switches d (record d {
     cells = replicate (length d.hidden) (space d);
     saved = home;
     is_alternate = true;
     hidden = d.cells;
     hidden_saved = d.cursor;
   })
-  back : Step prints switches d (record d {
+  back : Change prints switches d (record d {
     cells = d.hidden;
     saved = d.hidden_saved;
     is_alternate = false;
     hidden = replicate (length d.cells) (blank plain);
     hidden_saved = home;
   })
-  soften : Step prints switches d (softly_reset d)
-  renew : Step prints switches d (renewed d)
-  -- modes, and links; what is kept of rows that left
-  set_wraps : (on : Bool) → Step prints switches d (record d { wraps = on })
-  set_inserts : (on : Bool) → Step prints switches d (record d { inserts = on })
-  set_visible : (on : Bool) → Step prints switches d (record d { is_visible = on })
-  set_links : (links link : ℕ) → Step prints switches d (record d { links = links; link = link })
-  leave : (history : Option Kept) → Step prints switches d (record d { history = history })
+  soften : Change prints switches d (softly_reset d)
+  renew : Change prints switches d (fresh d.width d.height)
+  -- modes, and links
+  set_wraps : (on : Bool) → Change prints switches d (record d { wraps = on })
+  set_inserts : (on : Bool) → Change prints switches d (record d { inserts = on })
+  set_visible : (on : Bool) → Change prints switches d (record d { is_visible = on })
+  set_links : (links link : ℕ) → Change prints switches d (record d { links = links; link = link })
 
 -- another place of the cursor, other cells
 pub kept-place : (p : Place) (d : Display) → IsScreen d → p.row < d.height → p.column ≤ d.width
@@ -111,7 +109,7 @@ pub kept-if : (t : Bool) (a b : Display) → (t ≡ true → IsScreen a) → (t 
 kept-if true a b first second = first refl
 kept-if false a b first second = second refl
 
--- What a screen is, does not rest on modes, links, what was shown and what is kept: here these are a new one's.
+-- What a screen is, does not rest on modes and links: here these are a new one's.
 abbrev quieted : Display → Display
 quieted d = record (fresh d.width d.height) {
   cells = d.cells;
@@ -218,49 +216,48 @@ new-screen width height wide limit some few =
       in_margins = λ relative. cc relative;
     }
 
--- each step
-pub kept-step : (prints : ℕ → Type 0) (switches : Type 0) (d e : Display) → Step prints switches d e → IsScreen d → IsScreen e
+-- each change
+pub kept-change : (prints : ℕ → Type 0) (switches : Type 0) (d e : Display) → Change prints switches d e → IsScreen d → IsScreen e
 unfolding softly_reset
-kept-step prints switches d e (go row column relative within) s =
+kept-change prints switches d e (go row column relative within) s =
     kept-place (record d.cursor { row = row; column = column; is_relative = relative }) d s (within s).0 (within s).1 (within s).2
-kept-step prints switches d e (select groups) s = kept-place (with_style groups d).cursor d s s.sized.cursor_row s.sized.cursor_column s.in_margins
-kept-step prints switches d e (choose charsets) s = kept-place (with_charsets charsets d).cursor d s s.sized.cursor_row s.sized.cursor_column s.in_margins
-kept-step prints switches d e save s = record { sized = record { two_columns = s.sized.two_columns; columns_limit = s.sized.columns_limit; a_row = s.sized.a_row; rows_limit = s.sized.rows_limit; cells_fill = s.sized.cells_fill; hidden_fill = s.sized.hidden_fill; tabs_fill = s.sized.tabs_fill; cursor_row = s.sized.cursor_row; cursor_column = s.sized.cursor_column; saved_row = s.sized.cursor_row; saved_column = s.sized.cursor_column; hidden_row = s.sized.hidden_row; hidden_column = s.sized.hidden_column; margins = s.sized.margins; margins_within = s.sized.margins_within }; whole = s.whole; hidden_whole = s.hidden_whole; in_margins = s.in_margins }
-kept-step prints switches d e (restore row within) s = kept-place (record d.saved { row = row }) d s (within s).0 (within s).1 (within s).2
-kept-step prints switches d e (erase start end within) s =
+kept-change prints switches d e (select groups) s = kept-place (with_style groups d).cursor d s s.sized.cursor_row s.sized.cursor_column s.in_margins
+kept-change prints switches d e (choose charsets) s = kept-place (with_charsets charsets d).cursor d s s.sized.cursor_row s.sized.cursor_column s.in_margins
+kept-change prints switches d e save s = record { sized = record { two_columns = s.sized.two_columns; columns_limit = s.sized.columns_limit; a_row = s.sized.a_row; rows_limit = s.sized.rows_limit; cells_fill = s.sized.cells_fill; hidden_fill = s.sized.hidden_fill; tabs_fill = s.sized.tabs_fill; cursor_row = s.sized.cursor_row; cursor_column = s.sized.cursor_column; saved_row = s.sized.cursor_row; saved_column = s.sized.cursor_column; hidden_row = s.sized.hidden_row; hidden_column = s.sized.hidden_column; margins = s.sized.margins; margins_within = s.sized.margins_within }; whole = s.whole; hidden_whole = s.hidden_whole; in_margins = s.in_margins }
+kept-change prints switches d e (restore row within) s = kept-place (record d.saved { row = row }) d s (within s).0 (within s).1 (within s).2
+kept-change prints switches d e (erase start end within) s =
     kept-cells (change start end (erased (space d)) d.cells) d s (length-erased start end (space d) d.cells (within s).0 (within s).1)
     (whole-erased d.width start end (space d) d.cells (within s).0 (within s).1 refl refl s.whole)
-kept-step prints switches d e (join on end) s =
+kept-change prints switches d e (join on end) s =
     kept-cells (going_on on end d.cells) d s (length-going_on on end d.cells) (whole-going_on d.width on end d.cells s.whole)
-kept-step prints switches d e (delete n inside) s = kept-delete n d s (inside s)
-kept-step prints switches d e (insert n inside) s = kept-insert n d s (inside s)
-kept-step prints switches d e (rows_back n first last within) s =
+kept-change prints switches d e (delete n inside) s = kept-delete n d s (inside s)
+kept-change prints switches d e (insert n inside) s = kept-insert n d s (inside s)
+kept-change prints switches d e (rows_back n first last within) s =
     let rows = rows-inside first last d s (within s).0 (within s).1 in
     kept-cells _ d s (length-rows_up d.width first last n (space d) d.cells refl refl rows.0 rows.1)
     (whole-rows_up d.width first last n (space d) d.cells refl refl rows.0 rows.1 s.whole)
-kept-step prints switches d e (rows_on n first last within) s =
+kept-change prints switches d e (rows_on n first last within) s =
     let rows = rows-inside first last d s (within s).0 (within s).1 in
     let some : 2 ≤ d.width = s.sized.two_columns in
     kept-cells _ d s (length-rows_down d.width first last n (space d) d.cells refl refl rows.0 rows.1)
     (whole-rows_down d.width first last n (space d) d.cells refl refl (omega arith) rows.0 rows.1 s.whole)
-kept-step prints switches d e (write n c draws may is wide some few fits) s = kept-write n (drawn_if draws c) d s some few fits
-kept-step prints switches d e (add_mark c draws may is none) s =
+kept-change prints switches d e (write n c draws may is wide some few fits) s = kept-write n (drawn_if draws c) d s some few fits
+kept-change prints switches d e (add_mark c draws may is none) s =
     kept-cells (marked_before (drawn_if draws c) (here d) d.cells) d s (length-marked (drawn_if draws c) (here d) d.cells) (whole-marked d.width (drawn_if draws c) (here d) d.cells s.whole)
-kept-step prints switches d e (narrow top bottom row column order inside within) s =
+kept-change prints switches d e (narrow top bottom row column order inside within) s =
     let place = within s in
     record { sized = record { two_columns = s.sized.two_columns; columns_limit = s.sized.columns_limit; a_row = s.sized.a_row; rows_limit = s.sized.rows_limit; cells_fill = s.sized.cells_fill; hidden_fill = s.sized.hidden_fill; tabs_fill = s.sized.tabs_fill; cursor_row = place.0; cursor_column = place.1; saved_row = s.sized.saved_row; saved_column = s.sized.saved_column; hidden_row = s.sized.hidden_row; hidden_column = s.sized.hidden_column; margins = omega arith; margins_within = inside }; whole = s.whole; hidden_whole = s.hidden_whole; in_margins = place.2 }
-kept-step prints switches d e (stop_at stops long) s = kept-tabs stops d s long
-kept-step prints switches d e (to_other may) s =
+kept-change prints switches d e (stop_at stops long) s = kept-tabs stops d s long
+kept-change prints switches d e (to_other may) s =
     let some : 1 ≤ d.height = s.sized.a_row in
     record { sized = record { two_columns = s.sized.two_columns; columns_limit = s.sized.columns_limit; a_row = s.sized.a_row; rows_limit = s.sized.rows_limit; cells_fill = length-replicate (length d.hidden) (space d) ∙ s.sized.hidden_fill; hidden_fill = s.sized.cells_fill; tabs_fill = s.sized.tabs_fill; cursor_row = s.sized.cursor_row; cursor_column = s.sized.cursor_column; saved_row = omega arith; saved_column = omega arith; hidden_row = s.sized.cursor_row; hidden_column = s.sized.cursor_column; margins = s.sized.margins; margins_within = s.sized.margins_within }; whole = whole-blanks d.width (length d.hidden) (space d) refl refl; hidden_whole = s.whole; in_margins = s.in_margins }
-kept-step prints switches d e back s =
+kept-change prints switches d e back s =
     let some : 1 ≤ d.height = s.sized.a_row in
     record { sized = record { two_columns = s.sized.two_columns; columns_limit = s.sized.columns_limit; a_row = s.sized.a_row; rows_limit = s.sized.rows_limit; cells_fill = s.sized.hidden_fill; hidden_fill = length-replicate (length d.cells) (blank plain) ∙ s.sized.cells_fill; tabs_fill = s.sized.tabs_fill; cursor_row = s.sized.cursor_row; cursor_column = s.sized.cursor_column; saved_row = s.sized.hidden_row; saved_column = s.sized.hidden_column; hidden_row = omega arith; hidden_column = omega arith; margins = s.sized.margins; margins_within = s.sized.margins_within }; whole = s.hidden_whole; hidden_whole = whole-blanks d.width (length d.cells) (blank plain) refl refl; in_margins = s.in_margins }
-kept-step prints switches d e soften s =
+kept-change prints switches d e soften s =
     let some : 1 ≤ d.height = s.sized.a_row in
     let none : ℕ = 0 in
     record { sized = record { two_columns = s.sized.two_columns; columns_limit = s.sized.columns_limit; a_row = s.sized.a_row; rows_limit = s.sized.rows_limit; cells_fill = s.sized.cells_fill; hidden_fill = s.sized.hidden_fill; tabs_fill = s.sized.tabs_fill; cursor_row = s.sized.cursor_row; cursor_column = s.sized.cursor_column; saved_row = omega arith; saved_column = omega arith; hidden_row = s.sized.hidden_row; hidden_column = s.sized.hidden_column; margins = omega arith; margins_within = omega arith }; whole = s.whole; hidden_whole = s.hidden_whole; in_margins = λ relative. cc relative }
-kept-step prints switches d e renew s =
-    kept-quiet (fresh d.width d.height) (renewed d) refl
-    (new-screen d.width d.height s.sized.two_columns s.sized.columns_limit s.sized.a_row s.sized.rows_limit)
-kept-step prints switches d e step s = kept-quiet d e refl s
+kept-change prints switches d e renew s =
+    new-screen d.width d.height s.sized.two_columns s.sized.columns_limit s.sized.a_row s.sized.rows_limit
+kept-change prints switches d e step s = kept-quiet d e refl s

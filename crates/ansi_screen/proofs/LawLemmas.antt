@@ -1,6 +1,6 @@
 -- Calls that change nothing but the cursor; and what a reset leaves.
 use Rattle.std.proofs.Common.{◌≡◌, inl, inr, ℕ, zero, suc, arith, true, false, List, [], ◌∷◌, ◌++◌, refl, ap, sym, ◌∙◌}
-use Rattle.std.specs.Prelude.{min, None}
+use Rattle.std.specs.Prelude.{min, Option, None}
 use Rattle.std.specs.Fn.{iterate}
 use Rattle.std.specs.List.{AllByRecursion}
 use Rattle.std.proofs.lemmas.Bool.{ne_eqb}
@@ -14,12 +14,13 @@ use Rattle.ansi_screen.specs.declared.function.Function.TheVariants.{Moves, Noth
 use Rattle.ansi_screen.specs.declared.function.Setting.TheVariants.{Rendition}
 use Rattle.ansi_screen.specs.Edits.{renewed}
 use Rattle.ansi_screen.specs.Display.{Display, Picture, fresh}
+use Rattle.ansi_screen.specs.State.{State, Step, stays, stepped}
 use Rattle.ansi_screen.specs.Modes.{restored}
 use Rattle.ansi_screen.specs.Moves.{settled, tabbed_back}
-use Rattle.ansi_screen.specs.After.{State, function_of, moved, set, controlled, sequenced, escaped, designated, is_repeat, after, after_all, Shows, first_of, second_of, count}
+use Rattle.ansi_screen.specs.After.{function_of, moved, set, controlled, sequenced, escaped, designated, is_repeat, step_of, after, after_all, Shows, first_of, second_of, count}
 use Rattle.ansi_screen.specs.Leaving.{unkept}
 use Rattle.ansi_screen.specs.Laws.{with_shown, reset, save, restore, IsMoveOrStyle}
-use Rattle.ansi_screen.proofs.PictureLemmas.{same-after_all, unkept-after_all}
+use Rattle.ansi_screen.proofs.LeftLemmas.{same-after_all, unkept-after_all}
 
 -- the display with another cursor
 abbrev at_place : Place → Display → Display
@@ -49,7 +50,7 @@ moved-cursor Position n m d = refl
 moved-cursor BackTab n m d = back-cursor (min (count n) d.width) (settled d)
 
 controlled-moves : (function : Function) (move : Move) (groups : List (List ℕ)) (d : Display) → function ≡ Moves move
-    → controlled function groups d ≡ moved move (first_of groups) (second_of groups) (settled d)
+    → controlled function groups d ≡ stays (moved move (first_of groups) (second_of groups)) (settled d)
 unfolding controlled
 controlled-moves function move groups d is = rw is refl
 
@@ -58,7 +59,7 @@ controlled-style : (final : ℕ) (groups : List (List ℕ)) (d : Display) → fi
 unfolding controlled function_of
 controlled-style final groups d is = rw is refl
 
-style-cursor : (groups : List (List ℕ)) (d : Display) → set Rendition groups d ≡ at_place (set Rendition groups d).cursor d
+style-cursor : (groups : List (List ℕ)) (d : Display) → set Rendition groups d ≡ stays (at_place (set Rendition groups d).display.cursor) d
 unfolding set
 style-cursor groups d = refl
 
@@ -74,37 +75,57 @@ no-repeat final other = rw (ne_eqb final 0x62 other) refl
 move-other : (final : ℕ) (move : Move) → function_of final ≡ Moves move → final ≡ 0x62 → ⊥
 move-other final move is e = let none : function_of final ≡ Nothing = ap function_of e ∙ repeat-nothing in cc
 
-pub after-sequence : (groups : List (List ℕ)) (final : ℕ) (s : State) → is_repeat [] final ≡ false
-    → (after (csi_dispatch groups [] false final) s).display ≡ controlled (function_of final) groups s.display
+pub step-sequence : (groups : List (List ℕ)) (final : ℕ) (last : Option ℕ) (d : Display) → is_repeat [] final ≡ false
+    → step_of (csi_dispatch groups [] false final) last d ≡ controlled (function_of final) groups d
 unfolding sequenced
-after-sequence groups final s other = rw other refl
+step-sequence groups final last d other = rw other refl
 
--- where a call comes to a display that differs in its cursor alone, it does so itself
-as-place : (d e f : Display) → f ≡ e → e ≡ at_place e.cursor d → f ≡ at_place f.cursor d
-as-place d e f is kept = is ∙ (kept ∙ ap (λ (x : Display). at_place x.cursor d) (sym is))
+-- where a call comes to a display that differs in its cursor alone, and no row leaves, it does so itself
+as-place : (d e : Display) (f : Step) → f ≡ stays (λ x. e) d → e ≡ at_place e.cursor d → f ≡ stays (at_place f.display.cursor) d
+as-place d e f is kept =
+    is ∙ ap (λ (x : Display). stays (λ y. x) d) (kept ∙ ap (λ (x : Step). at_place x.display.cursor d) (sym is))
 
-kept : (call : Call) (s : State) → IsMoveOrStyle call → (after call s).display ≡ at_place (after call s).display.cursor s.display
-kept (csi_dispatch groups [] false final) s (inl (move, is)) =
-    as-place s.display (moved move (first_of groups) (second_of groups) (settled s.display)) _
-    (after-sequence groups final s (no-repeat final (move-other final move is)) ∙ controlled-moves (function_of final) move groups s.display is)
-    (moved-cursor move (first_of groups) (second_of groups) s.display)
-kept (csi_dispatch groups [] false final) s (inr is) =
-    as-place s.display (set Rendition groups s.display) _
-    (after-sequence groups final s (no-repeat final (λ e. omega arith)) ∙ controlled-style final groups s.display is) (style-cursor groups s.display)
-kept (csi_dispatch groups [] true final) s never = absurd never
-kept (csi_dispatch groups (mark ∷ marks) ignore final) s never = absurd never
-kept (print c) s never = absurd never
-kept (execute byte) s never = absurd never
-kept (hook groups intermediates ignore final) s never = absurd never
-kept (put byte) s never = absurd never
-kept unhook s never = absurd never
-kept (osc_dispatch parts bell) s never = absurd never
-kept (esc_dispatch intermediates ignore final) s never = absurd never
+kept : (call : Call) (last : Option ℕ) (d : Display) → IsMoveOrStyle call → step_of call last d ≡ stays (at_place (step_of call last d).display.cursor) d
+kept (csi_dispatch groups [] false final) last d (inl (move, is)) =
+    as-place d (moved move (first_of groups) (second_of groups) (settled d)) _
+    (step-sequence groups final last d (no-repeat final (move-other final move is)) ∙ controlled-moves (function_of final) move groups d is)
+    (moved-cursor move (first_of groups) (second_of groups) d)
+kept (csi_dispatch groups [] false final) last d (inr is) =
+    let styled : Step = step_of (csi_dispatch groups [] false final) last d in
+    let same : styled ≡ set Rendition groups d =
+    step-sequence groups final last d (no-repeat final (λ e. omega arith)) ∙ controlled-style final groups d is in
+    same ∙ (style-cursor groups d ∙ ap (λ (x : Step). stays (at_place x.display.cursor) d) (sym same))
+kept (csi_dispatch groups [] true final) last d never = absurd never
+kept (csi_dispatch groups (mark ∷ marks) ignore final) last d never = absurd never
+kept (print c) last d never = absurd never
+kept (execute byte) last d never = absurd never
+kept (hook groups intermediates ignore final) last d never = absurd never
+kept (put byte) last d never = absurd never
+kept unhook last d never = absurd never
+kept (osc_dispatch parts bell) last d never = absurd never
+kept (esc_dispatch intermediates ignore final) last d never = absurd never
 
-all-kept : (calls : List Call) (s : State) → AllByRecursion IsMoveOrStyle calls → (after_all calls s).display ≡ at_place (after_all calls s).display.cursor s.display
+-- a screen of which such calls leave all but the cursor and what REP repeats
+abbrev placed : Place → Option ℕ → State → State
+placed place last s = record s { display = at_place place s.display; last = last }
+
+one-kept : (call : Call) (s : State) → IsMoveOrStyle call → after call s ≡ placed (after call s).display.cursor None s
+one-kept (csi_dispatch groups intermediates ignore final) s is =
+    ap (λ (x : Step). record (stepped (λ d. x) s) { last = None }) (kept (csi_dispatch groups intermediates ignore final) s.last s.display is)
+one-kept (print c) s never = absurd never
+one-kept (execute byte) s never = absurd never
+one-kept (hook groups intermediates ignore final) s never = absurd never
+one-kept (put byte) s never = absurd never
+one-kept unhook s never = absurd never
+one-kept (osc_dispatch parts bell) s never = absurd never
+one-kept (esc_dispatch intermediates ignore final) s never = absurd never
+
+all-kept : (calls : List Call) (s : State) → AllByRecursion IsMoveOrStyle calls
+    → after_all calls s ≡ placed (after_all calls s).display.cursor (after_all calls s).last s
 all-kept [] s are = refl
 all-kept (call ∷ calls) s are =
-    all-kept calls (after call s) are.1 ∙ ap (λ (e : Display). at_place (after_all calls (after call s)).display.cursor e) (kept call s are.0)
+    all-kept calls (after call s) are.1
+    ∙ ap (λ (t : State). placed (after_all calls (after call s)).display.cursor (after_all calls (after call s)).last t) (one-kept call s are.0)
 
 pub after_all-append : (first second : List Call) (s : State) → after_all (first ++ second) s ≡ after_all second (after_all first s)
 after_all-append [] second s = refl
@@ -114,36 +135,36 @@ restored-saved : (place : Place) (d : Display) → d.saved.is_relative ≡ false
 unfolding restored
 restored-saved place d absolute = rw absolute refl
 
-after-save : (s : State) → (after save s).display ≡ record s.display { saved = s.display.cursor }
+after-save : (s : State) → after save s ≡ record s { display = record s.display { saved = s.display.cursor }; last = None }
 unfolding designated escaped
 after-save s = refl
 
-after-restore : (s : State) → (after restore s).display ≡ restored s.display
+after-restore : (s : State) → after restore s ≡ record s { display = restored s.display; last = None }
 unfolding designated escaped
 after-restore s = refl
 
-pub after-reset : (s : State) → after reset s ≡ record { display = renewed s.display; last = None }
+pub after-reset : (s : State) → after reset s ≡ record (stepped renewed s) { last = None }
 unfolding designated escaped
 after-reset s = refl
 
 pub enclosed-restores : (calls : List Call) (s : State) → AllByRecursion IsMoveOrStyle calls → s.display.cursor.is_relative ≡ false
-    → (after_all (save ∷ (calls ++ restore ∷ [])) s).display ≡ record s.display { saved = s.display.cursor }
+    → after_all (save ∷ (calls ++ restore ∷ [])) s ≡ record s { display = record s.display { saved = s.display.cursor }; last = None }
 enclosed-restores calls s are absolute =
     let start : State = after save s in
-    let begun : start.display ≡ record s.display { saved = s.display.cursor } = after-save s in
+    let begun : start ≡ record s { display = record s.display { saved = s.display.cursor }; last = None } = after-save s in
     let end : State = after_all calls start in
-    let saved_absolute : start.display.saved.is_relative ≡ false = ap (λ (d : Display). d.saved.is_relative) begun ∙ absolute in
-    ap (λ (e : State). e.display) (after_all-append calls (restore ∷ []) start)
+    let saved_absolute : start.display.saved.is_relative ≡ false = ap (λ (t : State). t.display.saved.is_relative) begun ∙ absolute in
+    after_all-append calls (restore ∷ []) start
     ∙ (after-restore end
-    ∙ (ap restored (all-kept calls start are)
-    ∙ (restored-saved end.display.cursor start.display saved_absolute
-    ∙ ap (λ (d : Display). at_place d.saved d) begun)))
+    ∙ (ap (λ (t : State). record t { display = restored t.display; last = None }) (all-kept calls start are)
+    ∙ (ap (λ (d : Display). record start { display = d; last = None }) (restored-saved end.display.cursor start.display saved_absolute)
+    ∙ ap (λ (t : State). record t { display = at_place t.display.saved t.display; last = None }) begun)))
 
 pub reset-forgets : (calls : List Call) (a b : State) → a.display.width ≡ b.display.width → a.display.height ≡ b.display.height
-    → with_shown b.display.shown (unkept (after_all (reset ∷ calls) a)) ≡ unkept (after_all (reset ∷ calls) b)
+    → with_shown b.shown (unkept (after_all (reset ∷ calls) a)) ≡ unkept (after_all (reset ∷ calls) b)
 reset-forgets calls a b same_width same_height =
-    let p : Picture = b.display.shown in
-    let new : ℕ → ℕ → State = λ w h. record { display = record (fresh w h) { shown = p }; last = None } in
+    let p : Picture = b.shown in
+    let new : ℕ → ℕ → State = λ w h. record { display = fresh w h; last = None; shown = p; history = None } in
     ap (with_shown p) (sym (unkept-after_all calls (after reset a)))
     ∙ (sym (same-after_all p calls (unkept (after reset a)))
     ∙ (ap (after_all calls) (ap (λ s. with_shown p (unkept s)) (after-reset a) ∙ (ap (λ n. new n a.display.height) same_width

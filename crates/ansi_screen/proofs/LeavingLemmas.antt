@@ -1,21 +1,19 @@
 -- Rows that are handed on, one after another, and what a call leaves of a screen of which they are taken.
-use Rattle.std.proofs.Common.{◌≡◌, ℕ, ◌+◌, ◌<◌, List, [], ◌∷◌, ◌++◌, length, take, refl, ap, ap₂, sym, ◌∙◌, subst, add-one, append-nil}
-use Rattle.std.specs.Prelude.{None, Some, slice_index_or}
+use Rattle.std.proofs.Common.{◌≡◌, ℕ, ◌+◌, ◌<◌, List, [], ◌∷◌, ◌++◌, length, take, refl, ap, ap₂, sym, ◌∙◌, subst, add-one, append-nil, arith}
+use Rattle.std.specs.Prelude.{Some, slice_index_or}
 use Rattle.std.specs.Option.{option_map}
 use Rattle.std.proofs.lemmas.List.{take_more}
 use Rattle.anstyle_parse.specs.Stream.Call.{Call, Goes}
 use Rattle.ansi_screen.specs.declared.cell.Cell.{Cell}
 use Rattle.ansi_screen.specs.Display.{Display, IsSized, row_cells}
 use Rattle.ansi_screen.specs.History.{Kept, nothing_kept, kept_after, kept_after_all, with_left}
-use Rattle.ansi_screen.specs.Text.{first_rows, printed_count}
+use Rattle.ansi_screen.specs.Text.{first_rows}
 use Rattle.ansi_screen.specs.After.{State, after, after_all}
 use Rattle.ansi_screen.specs.Leaving.{unkept, kept_rows, rows_left, all_left, HasRoom, with_room_alone, TakesRows, Scrolled, screen_of, taker_of, Scrolls, ScrollsAll}
 use Rattle.ansi_screen.proofs.HistoryLemmas.{kept-columns}
 use Rattle.ansi_screen.proofs.SizeLemmas.{sized-after, sized-after_all, few-leave}
-use Rattle.ansi_screen.proofs.StayLemmas.{used-beside}
-use Rattle.ansi_screen.proofs.PictureLemmas.{unkept-after, unkept-after_all}
-use Rattle.ansi_screen.proofs.LeavingTable.{leaving_rows, with_left-none, history-after, kept-left}
-use Rattle.ansi_screen.proofs.LeftLemmas.{rows_left-is, all_left-unkept, history-after_all}
+use Rattle.ansi_screen.proofs.LeavingTable.{length-left}
+use Rattle.ansi_screen.proofs.LeftLemmas.{left_some, kept-left, unkept-after, unkept-after_all, all_left-unkept, history-after_all}
 
 module _ {R : Type 0} (takes : R → List Cell → R → Type 0) where
   pub takes-append : (rows more : List (List Cell)) (a b c : R) → TakesRows takes a rows b → TakesRows takes b more c
@@ -49,10 +47,6 @@ module _ {R : Type 0} (takes : R → List Cell → R → Type 0) where
             (subst (λ s. TakesRows takes (taker_of mid) (all_left calls s) (taker_of new)) first.screen rest.taken);
       }
 
--- As many rows have something printed, whatever is kept.
-pub unkept-printed : (s : State) → printed_count s.display ≡ printed_count (unkept s).display
-unkept-printed s = sym (used-beside s.display.shown None s.display.height s.display)
-
 -- What is kept is for as many rows as before.
 pub kept-most : (rows : List (List Cell)) (kept : Kept) → (kept_after_all rows kept).most ≡ kept.most
 kept-most [] kept = refl
@@ -61,16 +55,16 @@ kept-most (row ∷ rows) kept = kept-most rows (kept_after row kept)
 -- Once the rows that left by a call are taken, there is room as before it,
 pub room-again : (call : Call) (s other taken : State) → HasRoom s → other ≡ after call s → taken ≡ with_room_alone other → IsSized taken.display → HasRoom taken
 room-again call s other taken has is alone sized =
-    let rows : List (List Cell) = leaving_rows call s.display in
+    let rows : List (List Cell) = rows_left call s in
     let none : Kept = nothing_kept s.display.height s.display.width in
-    let now : other.display.history ≡ Some (kept_after_all rows none) =
-    ap (λ (t : State). t.display.history) is ∙ (history-after call s ∙ ap (with_left rows) has.room) in
+    let now : other.history ≡ Some (kept_after_all rows none) =
+    ap (λ (t : State). t.history) is ∙ (ap (with_left rows) has.room ∙ left_some rows none) in
     let size = sized-after s.display.width s.display.height call s (refl, refl, has.sized.margins_within) in
     let wide : taken.display.width ≡ s.display.width = ap (λ (t : State). t.display.width) alone ∙ (ap (λ (t : State). t.display.width) is ∙ size.0) in
     let high : taken.display.height ≡ s.display.height = ap (λ (t : State). t.display.height) alone ∙ (ap (λ (t : State). t.display.height) is ∙ size.1) in
     record {
       sized = sized;
-      room = ap (λ (t : State). t.display.history) alone
+      room = ap (λ (t : State). t.history) alone
           ∙ (ap (option_map (λ (kept : Kept). nothing_kept kept.most kept.columns)) now
           ∙ ap₂ (λ most columns. Some (nothing_kept most columns)) (kept-most rows none ∙ sym high) (kept-columns rows none ∙ sym wide));
     }
@@ -83,22 +77,22 @@ room-still calls s other has is stays sized =
     let high : other.display.height ≡ s.display.height = ap (λ (t : State). t.display.height) is ∙ size.1 in
     record {
       sized = sized;
-      room = ap (λ (t : State). t.display.history) is
-          ∙ (history-after_all calls s ∙ (ap (λ rows. with_left rows s.display.history) stays ∙ (with_left-none s.display.history
-          ∙ (has.room ∙ ap₂ (λ most columns. Some (nothing_kept most columns)) (sym high) (sym wide)))));
+      room = ap (λ (t : State). t.history) is
+          ∙ (history-after_all calls s ∙ (ap (λ rows. with_left rows s.history) stays
+          ∙ (has.room ∙ ap₂ (λ most columns. Some (nothing_kept most columns)) (sym high) (sym wide))));
     }
 
 module _ {R : Type 0} (takes : R → List Cell → R → Type 0) where
   -- and these rows are all that left by it.
   pub call-scrolls : (call : Call) (s other taken : State) (old new : R) → HasRoom s → other ≡ after call s → taken ≡ with_room_alone other
-      → TakesRows takes old (kept_rows other.display.history) new
+      → TakesRows takes old (kept_rows other.history) new
       → Scrolls takes (record { screen = unkept s; taker = old }) call (record { screen = unkept taken; taker = new })
   call-scrolls call s other taken old new has is alone rows = record {
     screen = ap unkept alone ∙ (ap unkept is ∙ sym (unkept-after call s));
     taken = subst (λ l. TakesRows takes old l new)
-        (ap (λ (t : State). kept_rows t.display.history) is
-        ∙ (kept-left s.display.height s.display.width call s (few-leave s.display.width s.display.height call s.display (refl, refl, has.sized.margins_within)) has.room
-        ∙ sym (rows_left-is call s)))
+        (ap (λ (t : State). kept_rows t.history) is
+        ∙ kept-left (rows_left call s) (nothing_kept s.display.height s.display.width) s.history refl
+        (omega (arith, length-left call s, few-leave s.display.width s.display.height call s.display (refl, refl, has.sized.margins_within))) has.room)
         rows;
   }
 

@@ -1,7 +1,8 @@
 -- Which rows leave by a call, said call by call: how many, and of which display the first ones.
-use Rattle.std.proofs.Common.{◌≡◌, ℕ, zero, suc, ◌+◌, ◌-◌, ◌*◌, ◌≤◌, Bool, true, false, List, [], ◌∷◌, ◌++◌, length, take, drop, refl, ap, sym, ◌∙◌, subst, inl, inr, add-one, append_assoc, append-nil, length-append, arith}
-use Rattle.std.specs.Prelude.{min, nat_lt, nat_le, ◌==◌, ◌&&◌, ◌||◌, not, if◌then◌else◌, Option, None, Some}
+use Rattle.std.proofs.Common.{◌≡◌, ℕ, zero, suc, ◌+◌, ◌*◌, ◌≤◌, Bool, true, false, List, [], ◌∷◌, length, take, drop, refl, ap, sym, ◌∙◌, subst, inl, inr, add-one, arith}
+use Rattle.std.specs.Prelude.{min, nat_lt, nat_le, ◌==◌, ◌&&◌, ◌||◌, not, if◌then◌else◌, Option}
 use Rattle.std.proofs.lemmas.Bool.{and_parts, eqb-true, cases_Bool, leb-true, le-ltb}
+use Rattle.std.proofs.lemmas.List.{length-append}
 use Rattle.anstyle_parse.specs.Stream.Call.{Call, print, execute, hook, put as put_byte, unhook, osc_dispatch, csi_dispatch, esc_dispatch}
 use Rattle.ansi_screen.specs.declared.cell.Cell.{Cell}
 use Rattle.ansi_screen.specs.declared.function.Edit.{Edit}
@@ -9,20 +10,18 @@ use Rattle.ansi_screen.specs.declared.function.Edit.TheVariants.{InsertCharacter
 use Rattle.ansi_screen.specs.declared.function.Function.{Function}
 use Rattle.ansi_screen.specs.declared.function.Function.TheVariants.{Edits, Moves, Sets, Nothing}
 use Rattle.ansi_screen.specs.declared.function.Setting.TheVariants.{Rendition, SetModes, ResetModes, Margins, ScrollUp, ScrollDown, ForwardTab, ClearStops, SaveCursor, RestoreCursor}
-use Rattle.ansi_screen.specs.Display.{Display, row_cells, row_start, row_end}
-use Rattle.ansi_screen.specs.History.{Kept, nothing_kept, keep_last, kept_after, kept_after_all, with_left}
-use Rattle.ansi_screen.specs.Moves.{to_column, settled, tabbed}
-use Rattle.ansi_screen.specs.Edits.{row_going_on, erased_display, erased_line, erased_characters, deleted_characters, inserted_characters, index, swapped, main_screen, kept_by_scroll, kept_by_erase, erases_all, scrolled_up, scrolled_down, reverse_index, rows_up, row_above_ended, erases_from_row, erases_first}
+use Rattle.ansi_screen.specs.Cells.{rows_of}
+use Rattle.ansi_screen.specs.Display.{Display, row_cells}
+use Rattle.ansi_screen.specs.State.{Step, State}
+use Rattle.ansi_screen.specs.Moves.{to_column, settled}
+use Rattle.ansi_screen.specs.Edits.{row_going_on, erased_display, index, swapped, main_screen, left_by_scroll, left_by_erase, erases_all}
 use Rattle.ansi_screen.specs.Text.{is_unprinted, used, used_rows, first_rows, printed_count}
 use Rattle.ansi_screen.specs.Widths.{is_shown, columns}
-use Rattle.ansi_screen.specs.Print.{wrapped, put, marked, shown, drawn, draws, printed, printed_again}
-use Rattle.ansi_screen.specs.Cells.{rows_of}
-use Rattle.ansi_screen.specs.Modes.{saving, restored, with_private_mode, with_mode, with_charset}
-use Rattle.ansi_screen.specs.After.{State, moved, function_of, first_of, second_of, is_bare, count, is_known, edited, set as set_by, controlled, sequenced, executed, escaped, designated, repeated, is_repeat, after}
-use Rattle.ansi_screen.specs.Leaving.{kept_rows}
+use Rattle.ansi_screen.specs.Print.{wrapped, shown, drawn, draws, printed}
+use Rattle.ansi_screen.specs.After.{function_of, first_of, is_bare, count, is_known, edited, set as set_by, controlled, sequenced, executed, escaped, designated, is_repeat, step_of}
+use Rattle.ansi_screen.specs.Leaving.{rows_left}
 use Rattle.ansi_screen.specs.Laws.{is_wrapping}
 use Rattle.ansi_screen.proofs.RowLemmas.{drawn-if}
-use Rattle.ansi_screen.proofs.StayLemmas.{Stays, stays-if, stays-times, stays-part, stays-inserted_lines, stays-deleted_lines, stays-reverse, stays-down, stays-put, stays-marked, stays-tabbed, stays-restored, stays-private, stays-mode, stays-modes, stays-margins, stays-cleared, stays-moved, stays-charset, stays-softly}
 
 -- of n rows that scroll up within the margins: those at the top of the main screen
 unfoldable pub leaving_up : ℕ → Display → ℕ
@@ -77,88 +76,83 @@ before_leaving call d = d
 abbrev pub leaving_rows : Call → Display → List (List Cell)
 leaving_rows call d = first_rows (leaving call d) (before_leaving call d)
 
--- nothing leaves
-pub with_left-none : (history : Option Kept) → with_left [] history ≡ history
-with_left-none None = refl
-with_left-none (Some kept) = refl
+-- By a step the first rows of a display leave.
+abbrev Leaves : ℕ → Display → Step → Type 0
+Leaves n from step = step.left ≡ first_rows n from
 
--- What a display keeps, once the first rows of a second one have left a third.
-abbrev Keeps : ℕ → Display → Display → Display → Type 0
-Keeps n from d new = new.history ≡ with_left (first_rows n from) d.history
+rows-if : (t : Bool) (n : ℕ) (d : Display) → (if t then first_rows n d else []) ≡ first_rows (if t then n else 0) d
+rows-if true n d = refl
+rows-if false n d = refl
 
-none-left : (from d new : Display) → Stays d new → Keeps 0 from d new
-none-left from d new stays = stays ∙ sym (with_left-none d.history)
+leaves-if : (t : Bool) (n : ℕ) (d : Display) (a b : Step) → Leaves n d a → b.left ≡ [] → Leaves (if t then n else 0) d (if t then a else b)
+leaves-if true n d a b first second = first
+leaves-if false n d a b first second = second
 
-left-if : (t : Bool) (n : ℕ) (d : Display)
-    → (if t then with_left (first_rows n d) d.history else d.history) ≡ with_left (first_rows (if t then n else 0) d) d.history
-left-if true n d = refl
-left-if false n d = sym (with_left-none d.history)
-
-keeps-if : (t : Bool) (n : ℕ) (d a b : Display) → Keeps n d d a → Stays d b → Keeps (if t then n else 0) d d (if t then a else b)
-keeps-if true n d a b first second = first
-keeps-if false n d a b first second = none-left d d b second
+-- none leaves by either of two steps
+none-if : (t : Bool) (a b : Step) → a.left ≡ [] → b.left ≡ [] → (if t then a else b).left ≡ []
+none-if true a b first second = first
+none-if false a b first second = second
 
 -- SU, and a move to the next row
-scroll-keeps : (n : ℕ) (d : Display) → kept_by_scroll n d ≡ with_left (first_rows (leaving_up n d) d) d.history
-unfolding kept_by_scroll leaving_up
-scroll-keeps n d = left-if (d.top == 0 && not d.is_alternate) (min n d.bottom) d
+scroll-leaves : (n : ℕ) (d : Display) → left_by_scroll n d ≡ first_rows (leaving_up n d) d
+unfolding left_by_scroll leaving_up
+scroll-leaves n d = rows-if (d.top == 0 && not d.is_alternate) (min n d.bottom) d
 
-scrolled-keeps : (n : ℕ) (d : Display) → Keeps (leaving_up n d) d d (scrolled_up n d)
-unfolding rows_up
-scrolled-keeps n d = scroll-keeps n d
-
-index-keeps : (d : Display) → Keeps (leaving_by_index d) d d (index d)
+index-leaves : (d : Display) → Leaves (leaving_by_index d) d (index d)
 unfolding index leaving_by_index
-index-keeps d = keeps-if (d.cursor.row + 1 == d.bottom) (leaving_up 1 d) d _ _ (scrolled-keeps 1 d) refl
+index-leaves d = leaves-if (d.cursor.row + 1 == d.bottom) (leaving_up 1 d) d _ _ (scroll-leaves 1 d) refl
 
-settled-index : (d : Display) → Keeps (leaving_by_index d) d d (index (settled d))
+settled-index : (d : Display) → Leaves (leaving_by_index d) d (index (settled d))
 unfolding leaving_by_index leaving_up
-settled-index d = index-keeps (settled d)
+settled-index d = index-leaves (settled d)
+
+first-index : (d : Display) → Leaves (leaving_by_index d) d (index (to_column 0 d))
+unfolding leaving_by_index leaving_up
+first-index d = index-leaves (to_column 0 d)
 
 -- printing: a wrap moves to the next row, once the row goes on in it
-pick-wrap : (full wraps : Bool) (n : ℕ) (from d a b : Display) → Keeps n from d a → Stays d b
-    → Keeps (if full && wraps then n else 0) (if full && wraps then from else d) d (if full then (if wraps then a else b) else d)
-pick-wrap true true n from d a b first second = first
-pick-wrap true false n from d a b first second = none-left d d b second
-pick-wrap false wraps n from d a b first second = sym (with_left-none d.history)
+pick-wrap : (full wraps : Bool) (n : ℕ) (from d : Display) (a b e : Step) → Leaves n from a → b.left ≡ [] → e.left ≡ []
+    → Leaves (if full && wraps then n else 0) (if full && wraps then from else d) (if full then (if wraps then a else b) else e)
+pick-wrap true true n from d a b e first second third = first
+pick-wrap true false n from d a b e first second third = second
+pick-wrap false wraps n from d a b e first second third = third
 
-wrapped-keeps : (n : ℕ) (d : Display)
-    → Keeps (if nat_lt d.width (d.cursor.column + n) && d.wraps then leaving_by_index d else 0)
-    (if nat_lt d.width (d.cursor.column + n) && d.wraps then row_going_on true d else d) d (wrapped n d)
+wrapped-leaves : (n : ℕ) (d : Display)
+    → Leaves (if nat_lt d.width (d.cursor.column + n) && d.wraps then leaving_by_index d else 0)
+    (if nat_lt d.width (d.cursor.column + n) && d.wraps then row_going_on true d else d) (wrapped n d)
 unfolding wrapped leaving_by_index leaving_up
-wrapped-keeps n d =
-    pick-wrap (nat_lt d.width (d.cursor.column + n)) d.wraps (leaving_by_index d) (row_going_on true d) d (index (to_column 0 (row_going_on true d))) (settled d)
-    (index-keeps (to_column 0 (row_going_on true d))) refl
+wrapped-leaves n d =
+    pick-wrap (nat_lt d.width (d.cursor.column + n)) d.wraps (leaving_by_index d) (row_going_on true d) d _ _ _
+    (first-index (row_going_on true d)) refl refl
 
-shown-at : (t : Bool) (a b d other : Display) → Stays d a → Stays other b → (if t then a else b).history ≡ (if t then d else other).history
-shown-at true a b d other first second = first
-shown-at false a b d other first second = second
+left-at : (t : Bool) (a b : Step) → (if t then a else b).left ≡ (if t then a.left else b.left)
+left-at true a b = refl
+left-at false a b = refl
 
-shown-keeps : (c n : ℕ) (d : Display) → columns c ≡ n → (shown c d).history ≡ (if n == 0 then d else wrapped n d).history
+shown-leaves : (c n : ℕ) (d : Display) → columns c ≡ n → (shown c d).left ≡ (if n == 0 then [] else (wrapped n d).left)
 unfolding shown
-shown-keeps c n d is =
-    rw is (shown-at (n == 0) (marked c d) (put n c (wrapped n d)) d (wrapped n d) (stays-marked c d) (stays-put n c (wrapped n d)))
+shown-leaves c n d is = rw is (left-at (n == 0) _ _)
 
 printed-at : (is_it none : Bool) (c : ℕ) (d : Display) → is_shown c ≡ is_it → (columns c == 0) ≡ none
-    → Keeps (if is_wrapping c d then leaving_by_index d else 0) (if is_wrapping c d then row_going_on true d else d) d (printed c d)
+    → Leaves (if is_wrapping c d then leaving_by_index d else 0) (if is_wrapping c d then row_going_on true d else d) (printed c d)
 unfolding printed is_wrapping
-printed-at false none c d is none_is = rw is (none-left d d d refl)
+printed-at false none c d is none_is = rw is refl
 printed-at true true c d is none_is =
     let character : ℕ = if draws d.cursor.charsets then drawn c else c in
-    let same : Stays d (shown character d) =
-    shown-keeps character (columns c) d (drawn-if c (draws d.cursor.charsets)) ∙ ap (λ t. (if t then d else wrapped (columns c) d).history) none_is in
-    rw (is, none_is) (none-left d d (shown character d) same)
+    let same : (shown character d).left ≡ [] =
+    shown-leaves character (columns c) d (drawn-if c (draws d.cursor.charsets)) ∙ ap (λ t. if t then [] else (wrapped (columns c) d).left) none_is in
+    rw (is, none_is) same
 printed-at true false c d is none_is =
     let character : ℕ = if draws d.cursor.charsets then drawn c else c in
-    let same : Stays (wrapped (columns c) d) (shown character d) =
-    shown-keeps character (columns c) d (drawn-if c (draws d.cursor.charsets)) ∙ ap (λ t. (if t then d else wrapped (columns c) d).history) none_is in
-    rw (is, none_is) (same ∙ wrapped-keeps (columns c) d)
+    let same : (shown character d).left ≡ (wrapped (columns c) d).left =
+    shown-leaves character (columns c) d (drawn-if c (draws d.cursor.charsets)) ∙ ap (λ t. if t then [] else (wrapped (columns c) d).left) none_is in
+    rw (is, none_is) (same ∙ wrapped-leaves (columns c) d)
 
-printed-keeps : (c : ℕ) (d : Display)
-    → Keeps (if is_wrapping c d then leaving_by_index d else 0) (if is_wrapping c d then row_going_on true d else d) d (printed c d)
-printed-keeps c d = printed-at _ _ c d refl refl
+printed-leaves : (c : ℕ) (d : Display)
+    → Leaves (if is_wrapping c d then leaving_by_index d else 0) (if is_wrapping c d then row_going_on true d else d) (printed c d)
+printed-leaves c d = printed-at _ _ c d refl refl
 
--- REP prints where there is room
+-- where the row has room, none leaves
 one_false : (a b d : Bool) → (a && b && false && d) ≡ false
 one_false true true d = refl
 one_false true false d = refl
@@ -169,44 +163,24 @@ unfolding is_wrapping
 roomy c d room =
     rw (le-ltb d.width (d.cursor.column + columns c) (leb-true (d.cursor.column + columns c) d.width room)) (one_false (is_shown c) (not (columns c == 0)) d.wraps)
 
-again-at : (room : Bool) (c : ℕ) (d : Display) → nat_le (d.cursor.column + columns c) d.width ≡ room → Stays d (printed_again c d)
-unfolding printed_again
-again-at true c d room =
-    let none = roomy c d room in
-    rw room (printed-keeps c d ∙ ap (λ t. with_left (first_rows (if t then leaving_by_index d else 0) (if t then row_going_on true d else d)) d.history) none ∙ with_left-none d.history)
-again-at false c d room = rw room refl
-
-again-stays : (c : ℕ) (d : Display) → Stays d (printed_again c d)
-again-stays c d = again-at _ c d refl
-
-repeated-stays : (n : ℕ) (last : Option ℕ) (d : Display) → Stays d (repeated n last d)
-unfolding repeated
-repeated-stays n None d = refl
-repeated-stays n (Some c) d = stays-times (printed_again c) (again-stays c) (min n d.width) d
+pub again-leaves : (c : ℕ) (d : Display) → nat_le (d.cursor.column + columns c) d.width ≡ true → (printed c d).left ≡ []
+again-leaves c d room =
+    printed-leaves c d ∙ ap (λ t. first_rows (if t then leaving_by_index d else 0) (if t then row_going_on true d else d)) (roomy c d room)
 
 -- controls
 module _ (d : Display) where
   abbrev ByControl : ℕ → Type 0
-  ByControl byte = Keeps (leaving_by_control byte d) d d (executed byte d)
+  ByControl byte = Leaves (leaving_by_control byte d) d (executed byte d)
 
-  executed-keeps : (byte : ℕ) → ByControl byte
+  executed-leaves : (byte : ℕ) → ByControl byte
   unfolding executed leaving_by_control
-  executed-keeps byte = elim (cases_Bool (byte == 0x08)) [
-    | inl is ↦ subst ByControl (sym (eqb-true byte 0x08 is)) (sym (with_left-none d.history))
+  executed-leaves byte = elim (cases_Bool (byte == 0x08)) [
+    | inl is ↦ subst ByControl (sym (eqb-true byte 0x08 is)) refl
     | inr a ↦ elim (cases_Bool (byte == 0x09)) [
-      | inl is ↦ subst ByControl (sym (eqb-true byte 0x09 is)) (none-left d d (tabbed d) (stays-tabbed d))
+      | inl is ↦ subst ByControl (sym (eqb-true byte 0x09 is)) refl
       | inr b ↦ elim (cases_Bool (byte == 0x0A || byte == 0x0B || byte == 0x0C)) [
         | inl is ↦ rw (a, b, is) (settled-index d)
-        | inr e ↦ elim (cases_Bool (byte == 0x0D)) [
-          | inl is ↦ rw (a, b, e, is) (sym (with_left-none d.history))
-          | inr f ↦ elim (cases_Bool (byte == 0x0E)) [
-            | inl is ↦ rw (a, b, e, f, is) (sym (with_left-none d.history))
-            | inr g ↦ elim (cases_Bool (byte == 0x0F)) [
-              | inl is ↦ rw (a, b, e, f, g, is) (sym (with_left-none d.history))
-              | inr h ↦ rw (a, b, e, f, g, h) (sym (with_left-none d.history))
-            ]
-          ]
-        ]
+        | inr e ↦ rw (a, b, e) (none-if (byte == 0x0D) _ _ refl (none-if (byte == 0x0E) _ _ refl (none-if (byte == 0x0F) _ _ refl refl)))
       ]
     ]
   ]
@@ -214,25 +188,25 @@ module _ (d : Display) where
 -- escape sequences
 module _ (d : Display) where
   abbrev ByEscape : ℕ → Type 0
-  ByEscape final = Keeps (leaving_by_escape [] final d) (before_escape [] final d) d (escaped final d)
+  ByEscape final = Leaves (leaving_by_escape [] final d) (before_escape [] final d) (escaped final d)
 
-  escaped-keeps : (final : ℕ) → ByEscape final
+  escaped-leaves : (final : ℕ) → ByEscape final
   unfolding escaped leaving_by_escape before_escape leaving_by_index leaving_up
-  escaped-keeps final = elim (cases_Bool (final == 0x37)) [
-    | inl is ↦ subst ByEscape (sym (eqb-true final 0x37 is)) (sym (with_left-none d.history))
+  escaped-leaves final = elim (cases_Bool (final == 0x37)) [
+    | inl is ↦ subst ByEscape (sym (eqb-true final 0x37 is)) refl
     | inr a ↦ elim (cases_Bool (final == 0x38)) [
-      | inl is ↦ subst ByEscape (sym (eqb-true final 0x38 is)) (none-left d d (restored d) (stays-restored d))
+      | inl is ↦ subst ByEscape (sym (eqb-true final 0x38 is)) refl
       | inr b ↦ elim (cases_Bool (final == 0x44)) [
         | inl is ↦ subst ByEscape (sym (eqb-true final 0x44 is)) (settled-index d)
         | inr e ↦ elim (cases_Bool (final == 0x45)) [
-          | inl is ↦ subst ByEscape (sym (eqb-true final 0x45 is)) (index-keeps (to_column 0 d))
+          | inl is ↦ subst ByEscape (sym (eqb-true final 0x45 is)) (first-index d)
           | inr f ↦ elim (cases_Bool (final == 0x48)) [
-            | inl is ↦ subst ByEscape (sym (eqb-true final 0x48 is)) (sym (with_left-none d.history))
+            | inl is ↦ subst ByEscape (sym (eqb-true final 0x48 is)) refl
             | inr g ↦ elim (cases_Bool (final == 0x4D)) [
-              | inl is ↦ subst ByEscape (sym (eqb-true final 0x4D is)) (none-left d d (reverse_index (settled d)) (stays-reverse (settled d)))
+              | inl is ↦ subst ByEscape (sym (eqb-true final 0x4D is)) refl
               | inr h ↦ elim (cases_Bool (final == 0x63)) [
                 | inl is ↦ subst ByEscape (sym (eqb-true final 0x63 is)) refl
-                | inr i ↦ rw (a, b, e, f, g, h, i) (sym (with_left-none d.history))
+                | inr i ↦ rw (a, b, e, f, g, h, i) refl
               ]
             ]
           ]
@@ -241,26 +215,18 @@ module _ (d : Display) where
     ]
   ]
 
-designated-keeps : (intermediates : List ℕ) (final : ℕ) (d : Display)
-    → Keeps (leaving_by_escape intermediates final d) (before_escape intermediates final d) d (designated intermediates final d)
+designated-leaves : (intermediates : List ℕ) (final : ℕ) (d : Display)
+    → Leaves (leaving_by_escape intermediates final d) (before_escape intermediates final d) (designated intermediates final d)
 unfolding designated leaving_by_escape before_escape
-designated-keeps [] final d = escaped-keeps d final
-designated-keeps (mark ∷ []) final d = none-left d d (with_charset mark final d) (stays-charset mark final d)
-designated-keeps (mark ∷ other ∷ others) final d = sym (with_left-none d.history)
+designated-leaves [] final d = escaped-leaves d final
+designated-leaves (mark ∷ []) final d = refl
+designated-leaves (mark ∷ other ∷ others) final d = refl
 
 -- control sequences
-erase-at : (t : Bool) (kind : ℕ) (d : Display) → (erases_all kind d && not d.is_alternate) ≡ t
-    → kept_by_erase kind d ≡ with_left (first_rows (if erases_all kind d && not d.is_alternate then printed_count d else 0) d) d.history
-unfolding kept_by_erase
-erase-at true kind d is = rw is refl
-erase-at false kind d is = rw is (sym (with_left-none d.history))
-
-erased-keeps : (kind : ℕ) (d : Display)
-    → Keeps (if erases_all kind d && not d.is_alternate then printed_count d else 0) d d (erased_display kind d)
-unfolding erased_display
-erased-keeps kind d =
-    stays-part kind 0 (length d.cells) (row_above_ended (erases_from_row kind d) (record d { history = kept_by_erase kind d }))
-    ∙ erase-at _ kind d refl
+erased-leaves : (kind : ℕ) (d : Display)
+    → Leaves (if erases_all kind d && not d.is_alternate then printed_count d else 0) d (erased_display kind d)
+unfolding erased_display left_by_erase
+erased-leaves kind d = rows-if (erases_all kind d && not d.is_alternate) (printed_count d) d
 
 -- where no wrap is pending, as many rows have something printed
 settled-used : (n : ℕ) (d : Display) → used_rows is_unprinted n (settled d) ≡ used_rows is_unprinted n d
@@ -278,63 +244,59 @@ all-known kind d all = elim (cases_Bool (kind == 2)) [
 ]
 
 known-at : (known all : Bool) (kind : ℕ) (d : Display) → is_known EraseInDisplay kind ≡ known → erases_all kind (settled d) ≡ all
-    → Keeps (if erases_all kind (settled d) && not d.is_alternate then printed_count d else 0) d d
-    (if known then erased_display kind (settled d) else d)
+    → Leaves (if erases_all kind (settled d) && not d.is_alternate then printed_count d else 0) d
+    (if known then erased_display kind (settled d) else record { display = d; left = [] })
 known-at true all kind d known is =
-    erased-keeps kind (settled d)
-    ∙ ap (λ n. with_left (first_rows (if erases_all kind (settled d) && not d.is_alternate then n else 0) d) d.history) (settled-used d.height d)
-known-at false false kind d known is = rw is (sym (with_left-none d.history))
+    erased-leaves kind (settled d)
+    ∙ ap (λ n. first_rows (if erases_all kind (settled d) && not d.is_alternate then n else 0) d) (settled-used d.height d)
+known-at false false kind d known is = rw is refl
 known-at false true kind d known is = cc (all-known kind (settled d) is, known)
 
-edit-stays : (edit : Edit) (n : ℕ) (d : Display) → ((edit ≡ EraseInDisplay) → ⊥) → Stays d (edited edit n (settled d))
-unfolding edited erased_line erased_characters inserted_characters deleted_characters
-edit-stays InsertCharacters n d other = refl
-edit-stays EraseInDisplay n d other = absurd (other refl)
-edit-stays EraseInLine n d other =
-    stays-part n (row_start d) (row_end d) (row_above_ended (erases_first n (settled d)) (settled d))
-edit-stays InsertLines n d other = stays-inserted_lines (count n) (settled d)
-edit-stays DeleteLines n d other = stays-deleted_lines (count n) (settled d)
-edit-stays DeleteCharacters n d other = refl
-edit-stays EraseCharacters n d other = refl
+edit-none : (edit : Edit) (n : ℕ) (d : Display) → ((edit ≡ EraseInDisplay) → ⊥) → (edited edit n (settled d)).left ≡ []
+unfolding edited
+edit-none InsertCharacters n d other = refl
+edit-none EraseInDisplay n d other = absurd (other refl)
+edit-none EraseInLine n d other = refl
+edit-none InsertLines n d other = refl
+edit-none DeleteLines n d other = refl
+edit-none DeleteCharacters n d other = refl
+edit-none EraseCharacters n d other = refl
 
-edit-none : (edit : Edit) (n : ℕ) (d : Display) → ((edit ≡ EraseInDisplay) → ⊥)
-    → Keeps 0 d d (if is_known edit n then edited edit n (settled d) else d)
-edit-none edit n d other = none-left d d (if is_known edit n then edited edit n (settled d) else d) (stays-if (is_known edit n) d (edited edit n (settled d)) d (edit-stays edit n d other) refl)
+edit-if : (edit : Edit) (n : ℕ) (d : Display) → ((edit ≡ EraseInDisplay) → ⊥)
+    → (if is_known edit n then edited edit n (settled d) else record { display = d; left = [] }).left ≡ []
+edit-if edit n d other = none-if (is_known edit n) _ _ (edit-none edit n d other) refl
 
-controlled-keeps : (function : Function) (groups : List (List ℕ)) (d : Display)
-    → Keeps (leaving_by_function function groups d) d d (controlled function groups d)
+controlled-leaves : (function : Function) (groups : List (List ℕ)) (d : Display)
+    → Leaves (leaving_by_function function groups d) d (controlled function groups d)
 unfolding leaving_by_function controlled set_by edited
-controlled-keeps (Edits InsertCharacters) groups d = edit-none InsertCharacters (first_of groups) d (λ is. cc is)
-controlled-keeps (Edits EraseInDisplay) groups d = known-at _ _ (first_of groups) d refl refl
-controlled-keeps (Edits EraseInLine) groups d = edit-none EraseInLine (first_of groups) d (λ is. cc is)
-controlled-keeps (Edits InsertLines) groups d = edit-none InsertLines (first_of groups) d (λ is. cc is)
-controlled-keeps (Edits DeleteLines) groups d = edit-none DeleteLines (first_of groups) d (λ is. cc is)
-controlled-keeps (Edits DeleteCharacters) groups d = edit-none DeleteCharacters (first_of groups) d (λ is. cc is)
-controlled-keeps (Edits EraseCharacters) groups d = edit-none EraseCharacters (first_of groups) d (λ is. cc is)
-controlled-keeps (Moves move) groups d =
-    none-left d d (moved move (first_of groups) (second_of groups) (settled d)) (stays-moved move (first_of groups) (second_of groups) (settled d))
-controlled-keeps (Sets Rendition) groups d = sym (with_left-none d.history)
-controlled-keeps (Sets SetModes) groups d = (stays-modes (with_mode true) (stays-mode true) groups d) ∙ sym (with_left-none d.history)
-controlled-keeps (Sets ResetModes) groups d = (stays-modes (with_mode false) (stays-mode false) groups d) ∙ sym (with_left-none d.history)
-controlled-keeps (Sets Margins) groups d = (stays-margins (first_of groups) (second_of groups) d) ∙ sym (with_left-none d.history)
-controlled-keeps (Sets ScrollUp) groups d = scrolled-keeps (count (first_of groups)) d
-controlled-keeps (Sets ScrollDown) groups d = none-left d d (scrolled_down (count (first_of groups)) d) (stays-down (count (first_of groups)) d.top d.bottom d)
-controlled-keeps (Sets ForwardTab) groups d = (stays-times tabbed stays-tabbed (min (count (first_of groups)) d.width) d) ∙ sym (with_left-none d.history)
-controlled-keeps (Sets ClearStops) groups d = (stays-cleared (first_of groups) d) ∙ sym (with_left-none d.history)
-controlled-keeps (Sets SaveCursor) groups d = (stays-if (is_bare groups) d (saving d) d refl refl) ∙ sym (with_left-none d.history)
-controlled-keeps (Sets RestoreCursor) groups d = (stays-if (is_bare groups) d (restored d) d (stays-restored d) refl) ∙ sym (with_left-none d.history)
-controlled-keeps Nothing groups d = sym (with_left-none d.history)
+controlled-leaves (Edits InsertCharacters) groups d = edit-if InsertCharacters (first_of groups) d (λ is. cc is)
+controlled-leaves (Edits EraseInDisplay) groups d = known-at _ _ (first_of groups) d refl refl
+controlled-leaves (Edits EraseInLine) groups d = edit-if EraseInLine (first_of groups) d (λ is. cc is)
+controlled-leaves (Edits InsertLines) groups d = edit-if InsertLines (first_of groups) d (λ is. cc is)
+controlled-leaves (Edits DeleteLines) groups d = edit-if DeleteLines (first_of groups) d (λ is. cc is)
+controlled-leaves (Edits DeleteCharacters) groups d = edit-if DeleteCharacters (first_of groups) d (λ is. cc is)
+controlled-leaves (Edits EraseCharacters) groups d = edit-if EraseCharacters (first_of groups) d (λ is. cc is)
+controlled-leaves (Moves move) groups d = refl
+controlled-leaves (Sets Rendition) groups d = refl
+controlled-leaves (Sets SetModes) groups d = refl
+controlled-leaves (Sets ResetModes) groups d = refl
+controlled-leaves (Sets Margins) groups d = refl
+controlled-leaves (Sets ScrollUp) groups d = scroll-leaves (count (first_of groups)) d
+controlled-leaves (Sets ScrollDown) groups d = refl
+controlled-leaves (Sets ForwardTab) groups d = refl
+controlled-leaves (Sets ClearStops) groups d = refl
+controlled-leaves (Sets SaveCursor) groups d = none-if (is_bare groups) _ _ refl refl
+controlled-leaves (Sets RestoreCursor) groups d = none-if (is_bare groups) _ _ refl refl
+controlled-leaves Nothing groups d = refl
 
-sequenced-keeps : (groups : List (List ℕ)) (intermediates : List ℕ) (final : ℕ) (d : Display)
-    → Keeps (leaving_by_sequence groups intermediates final d) d d (sequenced groups intermediates final d)
+sequenced-leaves : (groups : List (List ℕ)) (intermediates : List ℕ) (final : ℕ) (d : Display)
+    → Leaves (leaving_by_sequence groups intermediates final d) d (sequenced groups intermediates final d)
 unfolding sequenced leaving_by_sequence
-sequenced-keeps groups [] final d = controlled-keeps (function_of final) groups d
-sequenced-keeps groups (mark ∷ []) final d =
-    (stays-if (mark == 0x3F && final == 0x68) d _ _ (stays-modes (with_private_mode true) (stays-private true) groups d)
-    (stays-if (mark == 0x3F && final == 0x6C) d _ _ (stays-modes (with_private_mode false) (stays-private false) groups d)
-    (stays-if (mark == 0x21 && final == 0x70) d _ _ (stays-softly d) refl)))
-    ∙ sym (with_left-none d.history)
-sequenced-keeps groups (mark ∷ other ∷ others) final d = sym (with_left-none d.history)
+sequenced-leaves groups [] final d = controlled-leaves (function_of final) groups d
+sequenced-leaves groups (mark ∷ []) final d =
+    none-if (mark == 0x3F && final == 0x68) _ _ refl
+    (none-if (mark == 0x3F && final == 0x6C) _ _ refl (none-if (mark == 0x21 && final == 0x70) _ _ refl refl))
+sequenced-leaves groups (mark ∷ other ∷ others) final d = refl
 
 -- REP is no function by which rows leave
 repeat-function : (groups : List (List ℕ)) (final : ℕ) (d : Display) → (final == 0x62) ≡ true → leaving_by_function (function_of final) groups d ≡ 0
@@ -347,40 +309,36 @@ unfolding is_repeat leaving_by_sequence
 repeat-none groups [] final d is = repeat-function groups final d is
 repeat-none groups (mark ∷ marks) final d is = refl
 
-csi-keeps : (repeats : Bool) (groups : List (List ℕ)) (intermediates : List ℕ) (final : ℕ) (s : State) → is_repeat intermediates final ≡ repeats
-    → Keeps (leaving_by_sequence groups intermediates final s.display) s.display s.display
-    (if is_repeat intermediates final then repeated (count (first_of groups)) s.last s.display else sequenced groups intermediates final s.display)
-csi-keeps true groups intermediates final s is =
-    rw (is, repeat-none groups intermediates final s.display is)
-    (repeated-stays (count (first_of groups)) s.last s.display ∙ sym (with_left-none s.display.history))
-csi-keeps false groups intermediates final s is = rw is (sequenced-keeps groups intermediates final s.display)
+csi-leaves : (repeats : Bool) (groups : List (List ℕ)) (intermediates : List ℕ) (final : ℕ) (last : Option ℕ) (d : Display)
+    → is_repeat intermediates final ≡ repeats
+    → Leaves (leaving_by_sequence groups intermediates final d) d (step_of (csi_dispatch groups intermediates false final) last d)
+csi-leaves true groups intermediates final last d is = rw (is, repeat-none groups intermediates final d is) refl
+csi-leaves false groups intermediates final last d is = rw is (sequenced-leaves groups intermediates final d)
 
--- What is kept after a call are the rows that the table says, and what was kept before.
-pub history-after : (call : Call) (s : State) → (after call s).display.history ≡ with_left (leaving_rows call s.display) s.display.history
-history-after (print c) s = printed-keeps c s.display
-history-after (execute byte) s = executed-keeps s.display byte
-history-after (csi_dispatch groups intermediates true final) s = sym (with_left-none s.display.history)
-history-after (csi_dispatch groups intermediates false final) s = csi-keeps _ groups intermediates final s refl
-history-after (esc_dispatch intermediates true final) s = sym (with_left-none s.display.history)
-history-after (esc_dispatch intermediates false final) s = designated-keeps intermediates final s.display
-history-after (hook groups intermediates ignore final) s = sym (with_left-none s.display.history)
-history-after (put_byte byte) s = sym (with_left-none s.display.history)
-history-after unhook s = sym (with_left-none s.display.history)
-history-after (osc_dispatch parts bell) s = sym (with_left-none s.display.history)
+step-leaves : (call : Call) (last : Option ℕ) (d : Display) → (step_of call last d).left ≡ leaving_rows call d
+step-leaves (print c) last d = printed-leaves c d
+step-leaves (execute byte) last d = executed-leaves d byte
+step-leaves (csi_dispatch groups intermediates true final) last d = refl
+step-leaves (csi_dispatch groups intermediates false final) last d = csi-leaves _ groups intermediates final last d refl
+step-leaves (esc_dispatch intermediates true final) last d = refl
+step-leaves (esc_dispatch intermediates false final) last d = designated-leaves intermediates final d
+step-leaves (hook groups intermediates ignore final) last d = refl
+step-leaves (put_byte byte) last d = refl
+step-leaves unhook last d = refl
+step-leaves (osc_dispatch parts bell) last d = refl
 
--- Room for as many as leave keeps all of them.
+-- The rows that leave by a call are those of the table.
+pub rows_left-is : (call : Call) (s : State) → rows_left call s ≡ leaving_rows call s.display
+rows_left-is call s = step-leaves call s.last s.display
+
 pub length-rows : (n width : ℕ) (cells : List Cell) → length (rows_of n width cells) ≡ n
 length-rows zero width cells = refl
 length-rows (suc n) width cells =
     length-append (rows_of n width cells) (take width (drop (n * width) cells) ∷ []) ∙ (ap (λ k. k + 1) (length-rows n width cells) ∙ add-one n)
 
-kept-whole : (rows : List (List Cell)) (kept : Kept) → length kept.rows + length rows ≤ kept.most → (kept_after_all rows kept).rows ≡ kept.rows ++ rows
-kept-whole [] kept room = sym (append-nil kept.rows)
-kept-whole (row ∷ rows) kept room =
-    let all : length (kept.rows ++ row ∷ []) - kept.most ≡ 0 = omega (arith, length-append kept.rows (row ∷ []), room) in
-    let same : keep_last kept.most (kept.rows ++ row ∷ []) ≡ kept.rows ++ row ∷ [] = ap (λ n. drop n (kept.rows ++ row ∷ [])) all in
-    kept-whole rows (kept_after row kept) (omega (arith, ap length same, length-append kept.rows (row ∷ []), room))
-    ∙ (ap (λ l. l ++ rows) same ∙ append_assoc kept.rows (row ∷ []) rows)
+pub length-left : (call : Call) (s : State) → length (rows_left call s) ≡ leaving call s.display
+length-left call s =
+    ap length (rows_left-is call s) ∙ length-rows (leaving call s.display) (before_leaving call s.display).width (before_leaving call s.display).cells
 
 few-at : (t : Bool) (n k : ℕ) → k ≤ n → (if t then k else suc n) ≤ suc n
 few-at true n k few = omega (arith, few)
@@ -455,16 +413,3 @@ module _ (most : ℕ) where
   call-few (put_byte byte) d tall low = omega arith
   call-few unhook d tall low = omega arith
   call-few (osc_dispatch parts bell) d tall low = omega arith
-
--- So the rows that leave by a call are those of the table.
-rows_of-fit : (n : ℕ) (from : Display) (kept : Kept) → kept.rows ≡ [] → n ≤ kept.most
-    → (kept_after_all (first_rows n from) kept).rows ≡ first_rows n from
-rows_of-fit n from kept none room =
-    kept-whole (first_rows n from) kept (omega (arith, ap length none, length-rows n from.width from.cells, room)) ∙ ap (λ l. l ++ first_rows n from) none
-
--- Of a screen that has room and has kept none, those are kept then which leave.
-pub kept-left : (most columns : ℕ) (call : Call) (s : State) → leaving call s.display ≤ most
-    → s.display.history ≡ Some (nothing_kept most columns) → kept_rows (after call s).display.history ≡ leaving_rows call s.display
-kept-left most columns call s room is =
-    ap kept_rows (history-after call s ∙ ap (with_left (leaving_rows call s.display)) is)
-    ∙ rows_of-fit (leaving call s.display) (before_leaving call s.display) (nothing_kept most columns) refl room

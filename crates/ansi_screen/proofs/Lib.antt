@@ -18,8 +18,6 @@ pub mod TableLemmas
 pub mod TextLemmas
 pub mod CallLemmas
 pub mod RepeatLemmas
-pub mod StayLemmas
-pub mod PictureLemmas
 pub mod LeavingTable
 pub mod LeftLemmas
 pub mod LeavingLemmas

@@ -1,6 +1,6 @@
 -- Rows that change places, and parts of a grid's cells that become blank or other ones, row by row.
 use Rattle.std.proofs.Common.{◌≡◌, inl, inr, ℕ, zero, suc, ◌+◌, ◌-◌, ◌*◌, ◌<◌, ◌≤◌, Bool, true, false, ◌&&◌, List, [], ◌∷◌, ◌++◌, length, get_or, take, drop, refl, ap, ap₂, sym, ◌∙◌, subst, arith}
-use Rattle.std.specs.Prelude.{Option, ◌==◌, ◌||◌, not, min, replicate, map, nat_lt, nat_eq, if◌then◌else◌}
+use Rattle.std.specs.Prelude.{◌==◌, ◌||◌, not, min, replicate, map, nat_lt, nat_eq, if◌then◌else◌}
 use Rattle.std.specs.List.{AllByRecursion}
 use Rattle.std.proofs.lemmas.List.{places, same_lists, take_at, drop_at, drop-drop, append_assoc, append-nil, length-append, length-take-le, length-drop, length-replicate, replicate-append-replicate, take-append-drop, take_all, drop_all, length-map, map-append, get_or-replicate, take-map, drop-map}
 use Rattle.std.proofs.lemmas.Grind.{flat_map-append}
@@ -12,10 +12,11 @@ use Rattle.ansi_style.specs.Style.{plain}
 use Rattle.ansi_screen.specs.declared.cell.Cell.{Cell}
 use Rattle.ansi_screen.specs.Cells.{blank, cut, cell_at, is_right, going_on, within, change, erased, moved_back, moved_on}
 use Rattle.ansi_screen.specs.Display.{Display, row_start}
-use Rattle.ansi_screen.specs.Edits.{row_above_ended, with_cells, space, erased_cells, erased_part, erased_display, erases_all, erases_from_row, kept_by_erase}
+use Rattle.ansi_screen.specs.Edits.{row_above_ended, with_cells, space, erased_cells, erased_part, erased_display, erases_all, erases_from_row, left_by_erase}
 use Rattle.ansi_screen.specs.Following.{copied}
 use Rattle.ansi_screen.specs.Grid.{Grid, with_list, flat, in_order, AreRows, times, IsOrder}
-use Rattle.ansi_screen.specs.History.{Kept, with_left}
+use Rattle.ansi_screen.specs.History.{with_left}
+use Rattle.ansi_screen.specs.State.{State, changed, stepped}
 use Rattle.ansi_screen.specs.Reachable.{RowsBegin}
 use Rattle.ansi_screen.specs.Text.{printed_rows}
 use Rattle.ansi_screen.proofs.CellLemmas.{cut-none, cut-first, cut-past}
@@ -545,52 +546,50 @@ whole-part kind d all = elim (cases_Bool (kind == 2)) [
       (from-home d _ row (eqb-true d.cursor.column 0 home.1) (none-above _ _ _ d.cells (ap (λ n. nat_lt 0 n) row)))
 ]
 
+-- ED, where the rows left
+abbrev in-place : ℕ → Display → Display
+in-place kind d = erased_part kind 0 (length d.cells) (row_above_ended (erases_from_row kind d) d)
+
 -- All is erased, whatever stood there.
-pub erased-out : (kind : ℕ) (d e : Display) (history : Option Kept) → erases_all kind d ≡ true
-    → e ≡ record d { cells = e.cells; history = history } → length e.cells ≡ length d.cells
-    → erased_part kind 0 (length e.cells) (row_above_ended (erases_from_row kind e) e)
-    ≡ erased_part kind 0 (length d.cells) (row_above_ended (erases_from_row kind d) (record d { history = history }))
-unfolding erases_all erases_from_row
-erased-out kind d e history all is same =
-    whole-part kind e (ap (λ (f : Display). erases_all kind f) is ∙ all)
-    ∙ (ap (λ (f : Display). with_cells (change 0 (length e.cells) (erased (space f)) e.cells) f) is
-    ∙ (ap (λ l. with_cells l (record d { history = history })) (erased-alike (space d) d.cells e.cells same)
-    ∙ sym (whole-part kind (record d { history = history }) all)))
+erased-out : (kind : ℕ) (cells : List Cell) (d : Display) → erases_all kind d ≡ true → length cells ≡ length d.cells
+    → in-place kind (with_cells cells d) ≡ in-place kind d
+unfolding erases_all
+erased-out kind cells d all same =
+    whole-part kind (with_cells cells d) all
+    ∙ (ap (λ l. with_cells l d) (erased-alike (space d) d.cells cells same) ∙ sym (whole-part kind d all))
 
 -- ED of all of the main screen: the rows left before; and any other ED
-abbrev in-place : ℕ → Display → Display
-in-place kind f = erased_part kind 0 (length f.cells) (row_above_ended (erases_from_row kind f) f)
+abbrev taken-away : ℕ → Bool → State → State
+taken-away kind b s = record s { display = in-place kind s.display; history = with_left (if b then printed_rows s.display else []) s.history }
 
-abbrev taken-away : ℕ → Bool → Display → Display
-taken-away kind b d = erased_part kind 0 (length d.cells)
-    (row_above_ended (erases_from_row kind d) (record d { history = if b then with_left (printed_rows d) d.history else d.history }))
+pub display-out : (kind : ℕ) (s f e new : State) → erases_all kind s.display ≡ true → s.display.is_alternate ≡ false → f ≡ e
+    → e ≡ record s { display = with_cells e.display.cells s.display; history = with_left (printed_rows s.display) s.history }
+    → length e.display.cells ≡ length s.display.cells → new ≡ changed (in-place kind) f → new ≡ stepped (erased_display kind) s
+unfolding erased_display left_by_erase
+display-out kind s f e new all main moved is same put =
+    let here : (erases_all kind s.display && not s.display.is_alternate) ≡ true = rw (all, main) refl in
+    put ∙ (ap (changed (in-place kind)) (moved ∙ is)
+    ∙ (ap (λ d. record s { display = d; history = with_left (printed_rows s.display) s.history }) (erased-out kind e.display.cells s.display all same)
+    ∙ ap (λ b. taken-away kind b s) (sym here)))
 
-pub display-out : (kind : ℕ) (d f e new : Display) → erases_all kind d ≡ true → d.is_alternate ≡ false → f ≡ e
-    → e ≡ record d { cells = e.cells; history = with_left (printed_rows d) d.history } → length e.cells ≡ length d.cells
-    → new ≡ erased_part kind 0 (length f.cells) (row_above_ended (erases_from_row kind f) f) → new ≡ erased_display kind d
-unfolding erased_display kept_by_erase
-display-out kind d f e new all main moved is same put =
-    let here : (erases_all kind d && not d.is_alternate) ≡ true = rw (all, main) refl in
-    put ∙ (ap (in-place kind) moved ∙ (erased-out kind d e (with_left (printed_rows d) d.history) all is same
-    ∙ ap (λ b. taken-away kind b d) (sym here)))
-
-display-kept : (kind : ℕ) (d f new : Display) → (erases_all kind d && not d.is_alternate) ≡ false → f ≡ d
-    → new ≡ erased_part kind 0 (length f.cells) (row_above_ended (erases_from_row kind f) f) → new ≡ erased_display kind d
-unfolding erased_display kept_by_erase
-display-kept kind d f new none same put =
-    put ∙ (ap (in-place kind) same ∙ ap (λ b. taken-away kind b d) (sym none))
+display-kept : (kind : ℕ) (s f new : State) → (erases_all kind s.display && not s.display.is_alternate) ≡ false → f ≡ s
+    → new ≡ changed (in-place kind) f → new ≡ stepped (erased_display kind) s
+unfolding erased_display left_by_erase
+display-kept kind s f new none same put =
+    put ∙ (ap (changed (in-place kind)) same ∙ ap (λ b. taken-away kind b s) (sym none))
 
 none-here : (b alternate : Bool) → alternate ≡ true → (b && not alternate) ≡ false
 none-here true alternate is = rw is refl
 none-here false alternate is = refl
 
-pub display-hidden : (kind : ℕ) (d f new : Display) → d.is_alternate ≡ true → f ≡ d
-    → new ≡ erased_part kind 0 (length f.cells) (row_above_ended (erases_from_row kind f) f) → new ≡ erased_display kind d
-display-hidden kind d f new is same put = display-kept kind d f new (none-here (erases_all kind d) d.is_alternate is) same put
+pub display-hidden : (kind : ℕ) (s f new : State) → s.display.is_alternate ≡ true → f ≡ s
+    → new ≡ changed (in-place kind) f → new ≡ stepped (erased_display kind) s
+display-hidden kind s f new is same put =
+    display-kept kind s f new (none-here (erases_all kind s.display) s.display.is_alternate is) same put
 
-pub display-part : (kind : ℕ) (d f new : Display) → erases_all kind d ≡ false → f ≡ d
-    → new ≡ erased_part kind 0 (length f.cells) (row_above_ended (erases_from_row kind f) f) → new ≡ erased_display kind d
-display-part kind d f new part same put = display-kept kind d f new (ap (λ b. b && not d.is_alternate) part) same put
+pub display-part : (kind : ℕ) (s f new : State) → erases_all kind s.display ≡ false → f ≡ s
+    → new ≡ changed (in-place kind) f → new ≡ stepped (erased_display kind) s
+display-part kind s f new part same put = display-kept kind s f new (ap (λ b. b && not s.display.is_alternate) part) same put
 
 pub same-long : (g other : Grid) → length g.cells ≡ g.height * g.width → length other.cells ≡ other.height * other.width
     → g.width ≡ other.width → g.height ≡ other.height → length other.cells ≡ length g.cells

@@ -62,7 +62,7 @@ put-first front n place x long =
 -- a character of one column, where there is room
 print-first : (width height row column n c : ℕ) (front : List Cell) → is_shown c ≡ true → columns c ≡ 1
     → length front ≡ row * width + column → column < width
-    → printed c (at width height (and_blanks front (suc n)) row column) ≡ at width height (and_blanks (front ++ glyph_of c ∷ []) n) row (column + 1)
+    → (printed c (at width height (and_blanks front (suc n)) row column)).display ≡ at width height (and_blanks (front ++ glyph_of c ∷ []) n) row (column + 1)
 unfolding printed shown put wrapped with_room with_glyph with_cells_of
 print-first width height row column n c front is one long room =
     let fits : nat_lt width (column + 1) ≡ false = le-ltb width (column + 1) (omega arith) in
@@ -93,8 +93,8 @@ print-line (c ∷ line) width height row column n front s are long fits is =
     let count : length (c ∷ line) + n ≡ suc (length line + n) = omega arith in
     let columns_then : column + 1 + length line ≡ column + length (c ∷ line) = omega arith in
     let first : (after (print c) s).display ≡ at width height (and_blanks (front ++ glyph_of c ∷ []) (length line + n)) row (column + 1) =
-    ap (printed c) is
-    ∙ (ap (λ k. printed c (at width height (and_blanks front k) row column)) count
+    ap (λ d. (printed c d).display) is
+    ∙ (ap (λ k. (printed c (at width height (and_blanks front k) row column)).display) count
     ∙ print-first width height row column (length line + n) c front are.0.1 are.0.2 long (omega arith)) in
     print-line line width height row (column + 1) n (front ++ glyph_of c ∷ []) (after (print c) s) are.1
     (omega (arith, length_push front (glyph_of c))) (omega arith) first
@@ -103,14 +103,14 @@ print-line (c ∷ line) width height row column n front s are long fits is =
 
 -- CR and LF, above the last row
 pub return-first : (width height row column : ℕ) (cells : List Cell)
-    → executed 0x0D (at width height cells row column) ≡ at width height cells row 0
+    → (executed 0x0D (at width height cells row column)).display ≡ at width height cells row 0
 unfolding executed
 return-first width height row column cells =
     let first : min 0 (width - 1) ≡ 0 = omega arith in
     rw first refl
 
 feed-next : (width height row : ℕ) (cells : List Cell) → row + 1 < height
-    → executed 0x0A (at width height cells row 0) ≡ at width height cells (row + 1) 0
+    → (executed 0x0A (at width height cells row 0)).display ≡ at width height cells (row + 1) 0
 unfolding executed index
 feed-next width height row cells below =
     let first : min 0 (width - 1) ≡ 0 = omega arith in
@@ -122,8 +122,8 @@ next-line : (width height row column : ℕ) (cells : List Cell) (s : State) → 
     → s.display ≡ at width height cells row column
     → (after line_feed (after carriage_return s)).display ≡ at width height cells (row + 1) 0
 next-line width height row column cells s below is =
-    ap (λ d. executed 0x0A (executed 0x0D d)) is
-    ∙ (ap (executed 0x0A) (return-first width height row column cells) ∙ feed-next width height row cells below)
+    ap (λ d. (executed 0x0A (executed 0x0D d).display).display) is
+    ∙ (ap (λ d. (executed 0x0A d).display) (return-first width height row column cells) ∙ feed-next width height row cells below)
 
 -- a line from the first column, and what is left of its row
 print-row : (line : List ℕ) (width height row rows : ℕ) (front : List Cell) (s : State) → FitsIn width line

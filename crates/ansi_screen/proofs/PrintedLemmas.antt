@@ -1,7 +1,7 @@
 -- Texts that come into their cells at once.
 use Rattle.std.proofs.Common.{◌≡◌, ◌≢◌, ℕ, zero, suc, ◌+◌, ◌-◌, ◌<◌, ◌≤◌, Bool, true, false, ◌&&◌, List, [], ◌∷◌, ◌++◌, length, get_or, take, drop, refl, ap, ap₂, sym, ◌∙◌, subst, arith}
-use Rattle.std.specs.Prelude.{nat_lt, nat_le, not, ◌==◌, Option}
-use Rattle.std.proofs.lemmas.Bool.{le-ltb, lt-leb, ne_eqb, and_parts, leb-true}
+use Rattle.std.specs.Prelude.{nat_lt, nat_le, ◌==◌, Option}
+use Rattle.std.proofs.lemmas.Bool.{le-ltb, lt-leb, ne_eqb, and_parts, leb-true, leb-false}
 use Rattle.std.specs.Prelude.{min}
 use Rattle.std.proofs.lemmas.List.{length-take-le, map-append}
 use Rattle.anstyle_parse.proofs.Lists.Parts.{AllByRecursion-take}
@@ -16,12 +16,10 @@ use Rattle.ansi_screen.specs.Edits.{row_goes_on, row_going_on}
 use Rattle.ansi_screen.specs.Widths.{is_shown, columns}
 use Rattle.ansi_screen.specs.Print.{glyph, wrapped, with_room, with_cells_of, with_glyph, put, shown, draws, printed}
 use Rattle.ansi_screen.specs.Runs.{is_printed_ascii, with_glyphs, with_run, printed_all, HasRoom}
-use Rattle.ansi_screen.specs.After.{State, repeatable, after, after_all}
-use Rattle.ansi_screen.specs.Laws.{is_wrapping}
-use Rattle.ansi_screen.specs.Text.{first_rows}
+use Rattle.ansi_screen.specs.State.{State, Step, stays, changed, stepped}
+use Rattle.ansi_screen.specs.History.{with_left}
+use Rattle.ansi_screen.specs.After.{repeatable, after, after_all}
 use Rattle.ansi_screen.specs.Leaving.{all_left}
-use Rattle.ansi_screen.proofs.LeavingTable.{leaving, before_leaving}
-use Rattle.ansi_screen.proofs.LeftLemmas.{rows_left-is}
 use Rattle.ansi_screen.specs.Laws.{printing}
 use Rattle.ansi_screen.specs.TextsProof.{after_all-append}
 use Rattle.ansi_screen.proofs.RunLemmas.{length-cut, drop-past}
@@ -48,35 +46,39 @@ columns-ascii c high = rw (no_column-below c (omega arith), two_columns-below c 
 
 -- a character of one column, where the row has room
 one-printed : (c : ℕ) (d : Display) → is_shown c ≡ true → columns c ≡ 1 → d.inserts ≡ false → draws d.cursor.charsets ≡ false
-    → d.cursor.column + 1 ≤ d.width → printed c d ≡ row_going_on (row_goes_on d) (with_run (c ∷ []) d)
+    → d.cursor.column + 1 ≤ d.width → printed c d ≡ stays (λ e. row_going_on (row_goes_on e) (with_run (c ∷ []) e)) d
 unfolding printed shown put wrapped with_room with_glyph with_cells_of
 one-printed c d is one stays letters room =
     let fits : nat_lt d.width (d.cursor.column + 1) ≡ false = le-ltb d.width (d.cursor.column + 1) room in
     rw (is, letters, one, fits, fits, stays) refl
 
 -- any character that takes columns for which the row has room, out of insert mode
-pub shown-at-once : (n c : ℕ) (d : Display) → n ≡ columns c → n ≢ 0 → d.cursor.column + n ≤ d.width → d.inserts ≡ false → with_glyph n c d ≡ shown c d
+pub shown-at-once : (n c : ℕ) (d : Display) → n ≡ columns c → n ≢ 0 → d.cursor.column + n ≤ d.width → d.inserts ≡ false → stays (with_glyph n c) d ≡ shown c d
 unfolding shown put wrapped with_room
 shown-at-once n c d is some room stays =
     let none : (columns c == 0) ≡ false = ne_eqb (columns c) 0 (λ e. some (is ∙ e)) in
     let fits : nat_lt d.width (d.cursor.column + columns c) ≡ false = le-ltb d.width (d.cursor.column + columns c) (omega (arith, is, room)) in
     rw (is, none, fits, fits, stays) refl
 
-pub shown-there : (n m c : ℕ) (v d new : Display) → v ≡ d → n ≡ columns c → m ≡ n → n ≢ 0 → v.cursor.column + m ≤ v.width → v.inserts ≡ false
-    → new ≡ with_glyph n c d → new ≡ shown c d
-shown-there n m c v d new same is from some room stays put =
-    let fits : v.cursor.column + n ≤ v.width = omega (arith, from, room) in
+pub shown-there : (n m c : ℕ) (v s new : State) → v ≡ s → n ≡ columns c → m ≡ n → n ≢ 0 → v.display.cursor.column + m ≤ v.display.width
+    → v.display.inserts ≡ false → new ≡ changed (with_glyph n c) s → new ≡ stepped (shown c) s
+shown-there n m c v s new same is from some room stays_put put =
+    let fits : v.display.cursor.column + n ≤ v.display.width = omega (arith, from, room) in
     put
-    ∙ shown-at-once n c d is some (subst (λ (x : Display). x.cursor.column + n ≤ x.width) same fits)
-    (subst (λ (x : Display). x.inserts ≡ false) same stays)
+    ∙ ap (λ (x : Step). stepped (λ d. x) s)
+    (shown-at-once n c s.display is some (subst (λ (x : State). x.display.cursor.column + n ≤ x.display.width) same fits)
+    (subst (λ (x : State). x.display.inserts ≡ false) same stays_put))
 
 module _ (c : ℕ) (text : List ℕ) (d : Display) (ascii : is_printed_ascii c ≡ true) (room : HasRoom (length (c ∷ text)) d) where
-  first-printed : printed c d ≡ row_going_on (row_goes_on d) (with_run (c ∷ []) d)
-  first-printed =
+  first-step : printed c d ≡ stays (λ e. row_going_on (row_goes_on e) (with_run (c ∷ []) e)) d
+  first-step =
       let parts = within-parts c ascii in
       one-printed c d (shown-ascii c parts.0 parts.1) (columns-ascii c parts.1) room.stays room.letters (omega (arith, room.fits))
 
-  first-room : HasRoom (length text) (printed c d)
+  first-printed : (printed c d).display ≡ row_going_on (row_goes_on d) (with_run (c ∷ []) d)
+  first-printed = ap (λ (x : Step). x.display) first-step
+
+  first-room : HasRoom (length text) (printed c d).display
   first-room =
       subst (HasRoom (length text)) (sym first-printed) (record { fits = omega (arith, room.fits); stays = room.stays; letters = room.letters })
 
@@ -98,9 +100,9 @@ run-printed (c ∷ text) d are room inside =
     let place : here x ≡ here d + 1 = omega arith in
     let columns_then : x.cursor.column + length text ≡ d.cursor.column + length (c ∷ text) = omega arith in
     let then_inside : row_end x ≤ length x.cells = omega (arith, inside, x_long) in
-    let first : printed c d ≡ x = first-printed c text d are.0 room in
+    let first : (printed c d).display ≡ x = first-printed c text d are.0 room in
     let says : row_goes_on x ≡ on = going-read on end one (omega (arith, below)) (omega (arith, inside, one_long)) in
-    run-printed text (printed c d) are.1 (first-room c text d are.0 room) (subst (λ (e : Display). row_end e ≤ length e.cells) (sym first) then_inside)
+    run-printed text (printed c d).display are.1 (first-room c text d are.0 room) (subst (λ (e : Display). row_end e ≤ length e.cells) (sym first) then_inside)
     ∙ (ap (λ (e : Display). row_going_on (row_goes_on e) (with_run text e)) first
     ∙ (ap (λ t. row_going_on t (with_run text x)) says
     ∙ (ap₂ (λ n k. record d {
@@ -162,25 +164,17 @@ run-ends text d inside ends =
     (going-same (row_goes_on d) (row_end d) (with_glyphs (here d) text d.cursor.style d.link d.cells)
     (none-glyphs (row_end d - 1) (here d) text d.cursor.style d.link d.cells inside ends ∙ sym ends))
 
+-- Where a run comes to the end of its row and that does not go on, or does not come there, the row says what it said.
+pub run-kept : (near : Bool) (text : List ℕ) (d : Display) → nat_le d.width (d.cursor.column + length text + 1) ≡ near → (near && row_goes_on d) ≡ false
+    → d.cursor.column + length text ≤ d.width → row_end d ≤ length d.cells → with_run text d ≡ row_going_on (row_goes_on d) (with_run text d)
+run-kept true text d is ends fits inside = run-ends text d (omega (arith, fits, inside)) ends
+run-kept false text d is ends fits inside = run-far text d (leb-false d.width (d.cursor.column + length text + 1) is) inside
+
 -- of which no row leaves
-not-full : (a b e : Bool) → (a && b && false && e) ≡ false
-not-full true true e = refl
-not-full true false e = refl
-not-full false b e = refl
-
-none-leaves : (c : ℕ) (d : Display) → columns c ≡ 1 → d.cursor.column + 1 ≤ d.width → leaving (print c) d ≡ 0
-unfolding is_wrapping
-none-leaves c d one room =
-    let fits : nat_lt d.width (d.cursor.column + columns c) ≡ false = le-ltb d.width (d.cursor.column + columns c) (omega (arith, one)) in
-    rw (fits, not-full (is_shown c) (not (columns c == 0)) d.wraps) refl
-
 pub run-stays : (text : List ℕ) (s : State) → EachIs is_printed_ascii text → HasRoom (length text) s.display → all_left (printing text) s ≡ []
 run-stays [] s are room = refl
 run-stays (c ∷ text) s are room =
-    let parts = within-parts c are.0 in
-    let stays : leaving (print c) s.display ≡ 0 = none-leaves c s.display (columns-ascii c parts.1) (omega (arith, room.fits)) in
-    ap₂ (λ (l m : List (List Cell)). l ++ m)
-    (rows_left-is (print c) s ∙ ap (λ n. first_rows n (before_leaving (print c) s.display)) stays)
+    ap₂ (λ (l m : List (List Cell)). l ++ m) (ap (λ (x : Step). x.left) (first-step c text s.display are.0 room))
     (run-stays text (after (print c) s) are.1 (first-room c text s.display are.0 room))
 
 -- what REP repeats after a text
@@ -188,9 +182,13 @@ abbrev pub last_after : List ℕ → Option ℕ → Option ℕ
 last_after [] last = last
 last_after (c ∷ text) last = last_after text (repeatable c)
 
-pub after-printing : (text : List ℕ) (s : State) → after_all (printing text) s ≡ record { display = printed_all text s.display; last = last_after text s.last }
-after-printing [] s = refl
-after-printing (c ∷ text) s = after-printing text (after (print c) s)
+pub after-printing : (text : List ℕ) (s : State) → EachIs is_printed_ascii text → HasRoom (length text) s.display
+    → after_all (printing text) s ≡ record s { display = printed_all text s.display; last = last_after text s.last }
+after-printing [] s are room = refl
+after-printing (c ∷ text) s are room =
+    after-printing text (after (print c) s) are.1 (first-room c text s.display are.0 room)
+    ∙ ap (λ (x : Step). record s { display = printed_all text (printed c s.display).display; last = last_after text (repeatable c); history = with_left x.left s.history })
+    (first-step c text s.display are.0 room)
 
 pub last_after-at : (text : List ℕ) (n : ℕ) (last : Option ℕ) → n < length text → last_after (take (suc n) text) last ≡ repeatable (get_or text n 0)
 last_after-at [] n last inside = absurd (omega arith)
@@ -198,25 +196,27 @@ last_after-at (c ∷ text) zero last inside = refl
 last_after-at (c ∷ text) (suc n) last inside = last_after-at text n (repeatable c) (omega arith)
 
 -- what a display and a screen are once a run is put
-pub put-cells : (text : List ℕ) (v d : Display) (place : ℕ) (cells : List Cell) → v ≡ d
-    → place ≡ here d → cells ≡ with_glyphs place text v.cursor.style v.link v.cells
-    → record v { cells = cells; cursor = record v.cursor { column = v.cursor.column + length text } } ≡ with_run text d
-put-cells text v d place cells same there put =
-    let at : place ≡ here v = there ∙ ap here (sym same) in
-    ap (λ l. record v { cells = l; cursor = record v.cursor { column = v.cursor.column + length text } })
-    (put ∙ ap (λ n. with_glyphs n text v.cursor.style v.link v.cells) at)
-    ∙ ap (with_run text) same
+pub put-cells : (text : List ℕ) (v s : State) (place : ℕ) (cells : List Cell) → v ≡ s
+    → place ≡ here s.display → cells ≡ with_glyphs place text v.display.cursor.style v.display.link v.display.cells
+    → changed (λ d. record d { cells = cells; cursor = record d.cursor { column = d.cursor.column + length text } }) v ≡ changed (with_run text) s
+put-cells text v s place cells same there put =
+    let at : place ≡ here v.display = there ∙ ap (λ (x : State). here x.display) (sym same) in
+    ap (λ l. changed (λ d. record d { cells = l; cursor = record d.cursor { column = d.cursor.column + length text } }) v)
+    (put ∙ ap (λ n. with_glyphs n text v.display.cursor.style v.display.link v.display.cells) at)
+    ∙ ap (changed (with_run text)) same
 
-pub put-state : (run : List ℕ) (n : ℕ) (v s : State) (d : Display) (last : Option ℕ) (x : ℕ) → v ≡ s → 0 < n → n ≤ length run
-    → d ≡ printed_all (take n run) v.display → last ≡ repeatable x → x ≡ get_or run (n - 1) 0
-    → record { display = d; last = last } ≡ after_all (printing (take n run)) s
-put-state run n v s d last x same some inside put repeats from =
+pub put-state : (run : List ℕ) (n : ℕ) (v s put new : State) (last : Option ℕ) (x : ℕ) → v ≡ s → 0 < n → n ≤ length run
+    → EachIs is_printed_ascii (take n run) → HasRoom (length (take n run)) v.display
+    → put ≡ changed (printed_all (take n run)) v → new ≡ record put { last = last } → last ≡ repeatable x → x ≡ get_or run (n - 1) 0
+    → new ≡ after_all (printing (take n run)) s
+put-state run n v s put new last x same some inside are room printed then_is repeats from =
     let back : n ≡ suc (n - 1) = omega arith in
     let is : last_after (take n run) v.last ≡ repeatable (get_or run (n - 1) 0) =
     ap (λ k. last_after (take k run) v.last) back ∙ last_after-at run (n - 1) v.last (omega arith) in
-    let shape : Display → Option ℕ → State = λ e l. record { display = e; last = l } in
-    ap₂ shape put (repeats ∙ (ap repeatable from ∙ sym is))
-    ∙ (sym (after-printing (take n run) v) ∙ ap (after_all (printing (take n run))) same)
+    then_is
+    ∙ (ap (λ (t : State). record t { last = last }) printed
+    ∙ (ap (λ l. record v { display = printed_all (take n run) v.display; last = l }) (repeats ∙ (ap repeatable from ∙ sym is))
+    ∙ (sym (after-printing (take n run) v are room) ∙ ap (after_all (printing (take n run))) same)))
 
 -- for less than there is room for, there is room
 pub put-stays : (run : List ℕ) (n room : ℕ) (v s : State) → v ≡ s → EachIs is_printed_ascii run → n ≡ min room (length run) → 0 < n

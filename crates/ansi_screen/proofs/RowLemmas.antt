@@ -331,7 +331,7 @@ marked-by c d cells true is = rw is refl
 marked-by c d cells false is = rw is refl
 
 pub put-by : (n c : ℕ) (d : Display) (cells : List Cell) (t : Bool) → d.inserts ≡ t → d.cursor.column + n ≤ d.width
-    → put n c (wrapped n (with_cells cells d)) ≡ in_row (put_by t n c d cells) (d.cursor.column + n) d
+    → put n c (wrapped n (with_cells cells d)).display ≡ in_row (put_by t n c d cells) (d.cursor.column + n) d
 unfolding put wrapped with_room with_glyph with_cells_of inserted_characters
 put-by n c d cells true is fits =
     let room : nat_lt d.width (d.cursor.column + n) ≡ false = le-ltb d.width (d.cursor.column + n) fits in
@@ -469,7 +469,7 @@ marked-wrote room c d false is s =
     }
 
 put-wrote : (n c : ℕ) (d : Display) → IsScreen d → 1 ≤ n → n ≤ 2 → d.cursor.column + n ≤ d.width
-    → Wrote n d (put n c (wrapped n d))
+    → Wrote n d (put n c (wrapped n d).display)
 put-wrote n c d s some few fits = record {
   cells = put_by d.inserts n c d d.cells;
   column = d.cursor.column + n;
@@ -480,7 +480,7 @@ put-wrote n c d s some few fits = record {
 }
 
 shown-wrote : (c : ℕ) (d : Display) (t : Bool) → (columns c == 0) ≡ t → IsScreen d
-    → d.cursor.column + columns c ≤ d.width → Wrote (columns c) d (shown c d)
+    → d.cursor.column + columns c ≤ d.width → Wrote (columns c) d (shown c d).display
 unfolding shown
 shown-wrote c d true is s fits = rw is (marked-wrote (columns c) c d _ refl s)
 shown-wrote c d false is s fits =
@@ -488,11 +488,11 @@ shown-wrote c d false is s fits =
     rw is (put-wrote (columns c) c d s (omega arith) (columns-few c _ _ refl refl) fits)
 
 pub printed-wrote : (c : ℕ) (d : Display) (t : Bool) → is_shown c ≡ t → IsScreen d
-    → d.cursor.column + columns c ≤ d.width → Wrote (columns c) d (printed c d)
+    → d.cursor.column + columns c ≤ d.width → Wrote (columns c) d (printed c d).display
 unfolding printed
 printed-wrote c d true is s fits =
     let character : ℕ = if draws d.cursor.charsets then drawn c else c in
     let same : columns character ≡ columns c = drawn-if c (draws d.cursor.charsets) in
-    rw is (subst (λ k. Wrote k d (shown character d)) same (shown-wrote character d _ refl s (omega arith)))
+    rw is (subst (λ k. Wrote k d (shown character d).display) same (shown-wrote character d _ refl s (omega arith)))
 printed-wrote c d false is s fits =
     rw is (record { cells = d.cells; column = d.cursor.column; is = refl; same = same-refl (row_start d) (row_end d) d.cells; fits = omega arith })

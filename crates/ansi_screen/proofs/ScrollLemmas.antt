@@ -17,18 +17,18 @@ use Rattle.ansi_screen.specs.Moves.{to_column, settled, tabbed, with_stop, clear
 use Rattle.ansi_screen.specs.Edits.{space, row_going_on, rows_up, scrolled_up, index}
 use Rattle.ansi_screen.specs.Widths.{is_shown, columns}
 use Rattle.ansi_screen.specs.Print.{wrapped}
-use Rattle.ansi_screen.specs.Modes.{with_mode, with_modes, with_margins, with_charset, saving, restored, first_field}
-use Rattle.ansi_screen.specs.After.{State, function_of, first_of, second_of, is_bare, count, set, controlled, executed, escaped, designated}
+use Rattle.ansi_screen.specs.Modes.{with_mode, with_modes, with_margins, with_charset, restored, first_field}
+use Rattle.ansi_screen.specs.State.{State, Step}
+use Rattle.ansi_screen.specs.After.{function_of, first_of, second_of, is_bare, count, set, controlled, executed, escaped, designated}
 use Rattle.ansi_screen.specs.Edits.{main_screen}
 use Rattle.ansi_screen.specs.Leaving.{rows_left}
 use Rattle.ansi_screen.specs.Text.{first_rows}
 use Rattle.ansi_screen.specs.Reachable.{IsScreen}
 use Rattle.ansi_screen.specs.Laws.{EditsNothing, KeepsRows, is_wrapping, before_scroll, once_scrolled}
-use Rattle.ansi_screen.proofs.LeftLemmas.{rows_left-is, length-left}
-use Rattle.ansi_screen.proofs.LeavingTable.{leaving_up, leaving_by_index, leaving_by_control, leaving_by_escape, leaving_by_function, leaving_by_sequence, leaving, before_escape, before_leaving}
+use Rattle.ansi_screen.proofs.LeavingTable.{rows_left-is, length-left, leaving_up, leaving_by_index, leaving_by_control, leaving_by_escape, leaving_by_function, leaving_by_sequence, leaving, before_escape, before_leaving}
 use Rattle.ansi_screen.proofs.PairLemmas.{length-run}
 use Rattle.ansi_screen.proofs.KeptLemmas.{kept-column, kept-settled, kept-going_on}
-use Rattle.ansi_screen.proofs.LawLemmas.{moved-cursor, no-repeat, after-sequence}
+use Rattle.ansi_screen.proofs.LawLemmas.{moved-cursor, no-repeat, step-sequence}
 
 -- the cells of a display, moved up by so many rows above the lower margin
 abbrev up_by : ℕ → Display → List Cell
@@ -88,13 +88,13 @@ module _ (d : Display) (s : IsScreen d) (top : d.top ≡ 0) (main : d.is_alterna
   unfolding leaving_up
   leaving-top n = rw (top, main) refl
 
-  scrolled-up : (n : ℕ) → (scrolled_up n d).cells ≡ up_by (leaving_up n d) d
+  scrolled-up : (n : ℕ) → (scrolled_up n d).display.cells ≡ up_by (leaving_up n d) d
   unfolding rows_up
   scrolled-up n =
       ap (λ k. (rows_up n k d.bottom d).cells) top
       ∙ (up-min n d _ refl s ∙ ap (λ k. up_by k d) (sym (leaving-top n)))
 
-  index-up : (t : Bool) → (d.cursor.row + 1 == d.bottom) ≡ t → (index d).cells ≡ up_by (leaving_by_index d) d
+  index-up : (t : Bool) → (d.cursor.row + 1 == d.bottom) ≡ t → (index d).display.cells ≡ up_by (leaving_by_index d) d
   unfolding index leaving_by_index
   index-up true is = rw is (scrolled-up 1)
   index-up false is = rw is (sym (up-none d))
@@ -103,6 +103,10 @@ module _ (d : Display) (s : IsScreen d) (top : d.top ≡ 0) (main : d.is_alterna
 same-if : (cells : List Cell) (t : Bool) (a b : Display) → a.cells ≡ cells → b.cells ≡ cells → (if t then a else b).cells ≡ cells
 same-if cells true a b first second = first
 same-if cells false a b first second = second
+
+after-if : (cells : List Cell) (t : Bool) (a b : Step) → a.display.cells ≡ cells → b.display.cells ≡ cells → (if t then a else b).display.cells ≡ cells
+after-if cells true a b first second = first
+after-if cells false a b first second = second
 
 tabbed-cells : (d : Display) → (tabbed d).cells ≡ d.cells
 unfolding tabbed
@@ -131,7 +135,7 @@ restored-cells d = same-if d.cells d.saved.is_relative _ _ refl refl
 
 -- by a control function
 control-up : (function : Function) (groups : List (List ℕ)) (d : Display) → IsScreen d → d.top ≡ 0 → d.is_alternate ≡ false
-    → EditsNothing function → (controlled function groups d).cells ≡ up_by (leaving_by_function function groups d) d
+    → EditsNothing function → (controlled function groups d).display.cells ≡ up_by (leaving_by_function function groups d) d
 unfolding controlled leaving_by_function set
 control-up (Edits edit) groups d s top main never = absurd never
 control-up (Moves move) groups d s top main steady =
@@ -144,8 +148,8 @@ control-up (Sets ScrollUp) groups d s top main steady = scrolled-up d s top main
 control-up (Sets ScrollDown) groups d s top main never = absurd never
 control-up (Sets ForwardTab) groups d s top main steady = tabs-cells (min (count (first_of groups)) d.width) d ∙ sym (up-none d)
 control-up (Sets ClearStops) groups d s top main steady = stop-cells (first_of groups) d ∙ sym (up-none d)
-control-up (Sets SaveCursor) groups d s top main steady = same-if d.cells (is_bare groups) (saving d) d refl refl ∙ sym (up-none d)
-control-up (Sets RestoreCursor) groups d s top main steady = same-if d.cells (is_bare groups) (restored d) d (restored-cells d) refl ∙ sym (up-none d)
+control-up (Sets SaveCursor) groups d s top main steady = after-if d.cells (is_bare groups) _ _ refl refl ∙ sym (up-none d)
+control-up (Sets RestoreCursor) groups d s top main steady = after-if d.cells (is_bare groups) _ _ (restored-cells d) refl ∙ sym (up-none d)
 control-up Nothing groups d s top main steady = sym (up-none d)
 
 -- by a control: LF, VT and FF, and all others
@@ -162,26 +166,26 @@ feed-index byte d (inl is) = rw is refl
 feed-index byte d (inr (inl is)) = rw is refl
 feed-index byte d (inr (inr is)) = rw is refl
 
-settled-up : (d : Display) → IsScreen d → d.top ≡ 0 → d.is_alternate ≡ false → (index (settled d)).cells ≡ up_by (leaving_by_index d) d
+settled-up : (d : Display) → IsScreen d → d.top ≡ 0 → d.is_alternate ≡ false → (index (settled d)).display.cells ≡ up_by (leaving_by_index d) d
 unfolding leaving_by_index leaving_up rows_up
 settled-up d s top main = index-up (settled d) (kept-settled d s) top main _ refl
 
-first-up : (d : Display) → IsScreen d → d.top ≡ 0 → d.is_alternate ≡ false → (index (to_column 0 d)).cells ≡ up_by (leaving_by_index d) d
+first-up : (d : Display) → IsScreen d → d.top ≡ 0 → d.is_alternate ≡ false → (index (to_column 0 d)).display.cells ≡ up_by (leaving_by_index d) d
 unfolding leaving_by_index leaving_up rows_up
 first-up d s top main = index-up (to_column 0 d) (kept-column 0 d s) top main _ refl
 
 executed-up : (byte : ℕ) (d : Display) (t : Bool) → (byte == 0x0A || byte == 0x0B || byte == 0x0C) ≡ t → IsScreen d
-    → d.top ≡ 0 → d.is_alternate ≡ false → (executed byte d).cells ≡ up_by (leaving_by_control byte d) d
+    → d.top ≡ 0 → d.is_alternate ≡ false → (executed byte d).display.cells ≡ up_by (leaving_by_control byte d) d
 unfolding executed leaving_by_control
 executed-up byte d true is s top main =
-    ap (λ (e : Display). e.cells) (feed-index byte d (or-three byte _ _ _ refl refl refl is))
+    ap (λ (e : Step). e.display.cells) (feed-index byte d (or-three byte _ _ _ refl refl refl is))
     ∙ rw is (settled-up d s top main)
 executed-up byte d false is s top main =
-    rw is (same-if d.cells (byte == 0x08) _ _ refl
-    (same-if d.cells (byte == 0x09) _ _ (tabbed-cells d)
-    (same-if d.cells (byte == 0x0D) _ _ refl
-    (same-if d.cells (byte == 0x0E) _ _ refl
-    (same-if d.cells (byte == 0x0F) _ _ refl refl)))) ∙ sym (up-none d))
+    rw is (after-if d.cells (byte == 0x08) _ _ refl
+    (after-if d.cells (byte == 0x09) _ _ (tabbed-cells d)
+    (after-if d.cells (byte == 0x0D) _ _ refl
+    (after-if d.cells (byte == 0x0E) _ _ refl
+    (after-if d.cells (byte == 0x0F) _ _ refl refl)))) ∙ sym (up-none d))
 
 -- by an escape sequence: IND and NEL, and all others
 or-two : (final : ℕ) (a b : Bool) → final == 0x44 ≡ a → final == 0x45 ≡ b → (a || b) ≡ true → (final ≡ 0x44) ⊎ (final ≡ 0x45)
@@ -190,7 +194,7 @@ or-two final false true first second is = inr (eqb-true final 0x45 second)
 or-two final false false first second is = cc is
 
 escaped-index : (final : ℕ) (d : Display) → (final ≡ 0x44) ⊎ (final ≡ 0x45) → IsScreen d → d.top ≡ 0 → d.is_alternate ≡ false
-    → (escaped final d).cells ≡ up_by (leaving_by_index d) d
+    → (escaped final d).display.cells ≡ up_by (leaving_by_index d) d
 unfolding escaped
 escaped-index final d (inl is) s top main = rw is (settled-up d s top main)
 escaped-index final d (inr is) s top main = rw is (first-up d s top main)
@@ -200,16 +204,16 @@ or-left true b is = cc is
 or-left false b is = (refl, is)
 
 escaped-up : (final : ℕ) (d : Display) (t : Bool) → (final == 0x44 || final == 0x45) ≡ t → (final ≢ 0x4D) × (final ≢ 0x63) → IsScreen d
-    → d.top ≡ 0 → d.is_alternate ≡ false → (escaped final d).cells ≡ up_by (leaving_by_escape [] final d) d
+    → d.top ≡ 0 → d.is_alternate ≡ false → (escaped final d).display.cells ≡ up_by (leaving_by_escape [] final d) d
 unfolding leaving_by_escape escaped
 escaped-up final d true is others s top main =
     escaped-index final d (or-two final _ _ refl refl is) s top main ∙ rw is refl
 escaped-up final d false is others s top main =
     let no = or-left (final == 0x44) (final == 0x45) is in
     rw (is, no.0, no.1, ne_eqb final 0x4D others.0, ne_eqb final 0x63 others.1)
-    (same-if d.cells (final == 0x37) _ _ refl
-    (same-if d.cells (final == 0x38) _ _ (restored-cells d)
-    (same-if d.cells (final == 0x48) _ _ refl refl)) ∙ sym (up-none d))
+    (after-if d.cells (final == 0x37) _ _ refl
+    (after-if d.cells (final == 0x38) _ _ (restored-cells d)
+    (after-if d.cells (final == 0x48) _ _ refl refl)) ∙ sym (up-none d))
 
 charset-cells : (mark final : ℕ) (d : Display) → (with_charset mark final d).cells ≡ d.cells
 unfolding with_charset
@@ -217,9 +221,9 @@ charset-cells mark final d =
     same-if d.cells (mark == 0x28) _ _ refl (same-if d.cells (mark == 0x29) _ d refl refl)
 
 -- by a character: autowrap
-wrap-if : (a b c : Bool) (x y j d : Display) (n bottom : ℕ) → x.cells ≡ (rows_up n 0 bottom j).cells
-    → y.cells ≡ (rows_up 0 0 bottom d).cells → d.cells ≡ (rows_up 0 0 bottom d).cells
-    → (if a then (if b then (if c then x else y) else d) else d).cells
+wrap-if : (a b c : Bool) (x y : Step) (j d : Display) (n bottom : ℕ) → x.display.cells ≡ (rows_up n 0 bottom j).cells
+    → y.display.cells ≡ (rows_up 0 0 bottom d).cells → d.cells ≡ (rows_up 0 0 bottom d).cells
+    → (if a then (if b then (if c then x else y) else record { display = d; left = [] }).display else d).cells
     ≡ (rows_up (if a && b && c then n else 0) 0 bottom (if a && b && c then j else d)).cells
 wrap-if true true true x y j d n bottom first second third = first
 wrap-if true true false x y j d n bottom first second third = second
@@ -227,7 +231,7 @@ wrap-if true false c x y j d n bottom first second third = third
 wrap-if false b c x y j d n bottom first second third = third
 
 joined-up : (d : Display) → IsScreen d → d.top ≡ 0 → d.is_alternate ≡ false
-    → (index (to_column 0 (row_going_on true d))).cells ≡ (rows_up (leaving_by_index d) 0 d.bottom (row_going_on true d)).cells
+    → (index (to_column 0 (row_going_on true d))).display.cells ≡ (rows_up (leaving_by_index d) 0 d.bottom (row_going_on true d)).cells
 unfolding leaving_by_index leaving_up
 joined-up d s top main = first-up (row_going_on true d) (kept-going_on true d s) top main
 
@@ -237,7 +241,7 @@ unfolding wrapped is_wrapping
 printed-up c s screen top main =
     let d : Display = s.display in
     wrap-if (is_shown c && not (columns c == 0)) (nat_lt d.width (d.cursor.column + columns c)) d.wraps
-    (index (to_column 0 (row_going_on true d))) (settled d) (row_going_on true d) d (leaving_by_index d) d.bottom
+    (index (to_column 0 (row_going_on true d))) (record { display = settled d; left = [] }) (row_going_on true d) d (leaving_by_index d) d.bottom
     (joined-up d screen top main) (sym (up-none d)) (sym (up-none d))
 
 begun-other : (final : ℕ) (d : Display) → final ≢ 0x63 → before_escape [] final d ≡ d
@@ -250,7 +254,7 @@ unfolding leaving_by_sequence leaving_by_escape before_escape designated
 moved-up s (print c) screen keeps top main = printed-up c s screen top main
 moved-up s (execute byte) screen keeps top main = executed-up byte s.display _ refl screen top main
 moved-up s (csi_dispatch groups [] false final) screen keeps top main =
-    ap (λ (e : Display). e.cells) (after-sequence groups final s (no-repeat final keeps.0))
+    ap (λ (e : Step). e.display.cells) (step-sequence groups final s.last s.display (no-repeat final keeps.0))
     ∙ control-up (function_of final) groups s.display screen top main keeps.1
 moved-up s (csi_dispatch groups [] true final) screen keeps top main = sym (up-none s.display)
 moved-up s (csi_dispatch groups (mark ∷ marks) false final) screen keeps top main = absurd keeps

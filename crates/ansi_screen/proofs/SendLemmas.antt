@@ -39,7 +39,7 @@ inside_send =
                       search sendable,
                       (
                         search sendable,
-                        (search sendable, (search sendable, (covered_send.the_send, (place, (damage_send.the_send, (shown_send, (search (sendable, crosses, history_send.the_send) depth 20, tt))))))),
+                        (search sendable, (search sendable, (covered_send.the_send, (place, (damage_send.the_send, (shown_send, (search (sendable, crosses, history_send.the_send) depth 20, (search (sendable, crosses) depth 20, tt)))))))),
                       ),
                     ),
                   ),

@@ -7,8 +7,8 @@ use Rattle.ansi_screen.specs.Modes.{softly_reset}
 use Rattle.ansi_screen.specs.After.{State, after, after_all}
 use Rattle.ansi_screen.specs.Edits.{swapped, main_screen}
 use Rattle.ansi_screen.proofs.LeavingTable.{leaving, call-few}
-use Rattle.ansi_screen.proofs.KeptLemmas.{Step, narrow, soften, renew}
-use Rattle.ansi_screen.proofs.Walk.{as-it-is, walk}
+use Rattle.ansi_screen.proofs.KeptLemmas.{Change, narrow, soften, renew}
+use Rattle.ansi_screen.proofs.Walk.{walk}
 use Rattle.ansi_screen.proofs.KeptCalls.{Any, any-call, any-repeat}
 
 module _ (width height : ℕ) where
@@ -20,16 +20,16 @@ module _ (width height : ℕ) where
   sized-if true a b first second = first
   sized-if false a b first second = second
 
-  sized-step : (d e : Display) → Step Any ⊤ d e → HasSize d → HasSize e
+  sized-change : (d e : Display) → Change Any ⊤ d e → HasSize d → HasSize e
   unfolding softly_reset
-  sized-step d e (narrow top bottom row column order inside within) s = (s.0, s.1, omega (arith, s.1))
-  sized-step d e soften s = (s.0, s.1, omega (arith, s.1))
-  sized-step d e renew s = (s.0, s.1, omega (arith, s.1))
-  sized-step d e step s = s
+  sized-change d e (narrow top bottom row column order inside within) s = (s.0, s.1, omega (arith, s.1))
+  sized-change d e soften s = (s.0, s.1, omega (arith, s.1))
+  sized-change d e renew s = (s.0, s.1, omega (arith, s.1))
+  sized-change d e change s = s
 
   pub sized-after : (call : Call) (s : State) → HasSize s.display → HasSize (after call s).display
   sized-after call s is =
-      (walk Any ⊤ HasSize sized-step s.display.shown (λ history. history) as-it-is call s (any-call call) (any-repeat s.last)).keeps is
+      walk Any ⊤ HasSize sized-change call s.last s.display (any-call call) (any-repeat s.last) is
 
   pub sized-after_all : (calls : List Call) (s : State) → HasSize s.display → HasSize (after_all calls s).display
   sized-after_all [] s is = is

@@ -5,8 +5,8 @@ use Rattle.anstyle_parse.specs.Stream.Call.{Call, print, execute, hook, put as p
 use Rattle.ansi_screen.specs.Display.{Display}
 use Rattle.ansi_screen.specs.Modes.{softly_reset}
 use Rattle.ansi_screen.specs.After.{State, after}
-use Rattle.ansi_screen.proofs.KeptLemmas.{Step, to_other, back, renew}
-use Rattle.ansi_screen.proofs.Walk.{MayBe, as-it-is, walk}
+use Rattle.ansi_screen.proofs.KeptLemmas.{Change, to_other, back, renew}
+use Rattle.ansi_screen.proofs.Walk.{MayBe, walk}
 use Rattle.ansi_screen.proofs.KeptCalls.{Any, any-repeat}
 use Rattle.ansi_screen.proofs.LeavingTable.{leaving_by_sequence, leaving}
 
@@ -14,16 +14,16 @@ use Rattle.ansi_screen.proofs.LeavingTable.{leaving_by_sequence, leaving}
 abbrev pub IsMain : Display → Type 0
 IsMain d = d.is_alternate ≡ false
 
-main-step : (d e : Display) → Step Any ⊥ d e → IsMain d → IsMain e
+main-change : (d e : Display) → Change Any ⊥ d e → IsMain d → IsMain e
 unfolding softly_reset
-main-step d e (to_other may) s = absurd may
-main-step d e back s = refl
-main-step d e renew s = refl
-main-step d e step s = s
+main-change d e (to_other may) s = absurd may
+main-change d e back s = refl
+main-change d e renew s = refl
+main-change d e change s = s
 
 main-after : (call : Call) (s : State) → MayBe Any ⊥ call → IsMain s.display → IsMain (after call s).display
 main-after call s may is =
-    (walk Any ⊥ IsMain main-step s.display.shown (λ history. history) as-it-is call s may (any-repeat s.last)).keeps is
+    walk Any ⊥ IsMain main-change call s.last s.display may (any-repeat s.last) is
 
 pub none-or-main : (call : Call) (s : State) → IsMain s.display → (leaving call s.display ≡ 0) ⊎ IsMain (after call s).display
 unfolding leaving_by_sequence

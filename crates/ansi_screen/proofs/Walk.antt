@@ -1,14 +1,12 @@
--- The walk over the table of `After`: what each call does is done in steps (`KeptLemmas`), and no step reads what was shown
--- of a screen, nor what it keeps of the rows that left it. So what each step keeps, each call keeps; and where what was
--- shown or is kept is something else, all else is the same.
-use Rattle.std.proofs.Common.{◌≡◌, ℕ, zero, suc, ◌+◌, ◌-◌, ◌<◌, ◌≤◌, Bool, true, false, List, [], ◌∷◌, length, set, refl, ap, ◌∙◌, arith}
-use Rattle.std.specs.Prelude.{⊤, min, max, nat_lt, nat_le, ◌==◌, not, ◌&&◌, ◌||◌, replicate, if◌then◌else◌, Option, None, Some}
+-- The walk over the table of `After`: what each call does is done in changes of few kinds (`KeptLemmas`). So what each
+-- change keeps, each call keeps.
+use Rattle.std.proofs.Common.{◌≡◌, ℕ, zero, suc, ◌+◌, ◌-◌, ◌<◌, ◌≤◌, Bool, true, false, List, [], ◌∷◌, length, set, refl, arith}
+use Rattle.std.specs.Prelude.{⊤, min, max, nat_lt, nat_le, ◌==◌, ◌&&◌, ◌||◌, replicate, if◌then◌else◌, Option, None, Some}
 use Rattle.std.specs.Fn.{iterate}
 use Rattle.std.proofs.lemmas.List.{length-set, length-replicate}
 use Rattle.std.proofs.lemmas.Bool.{and_parts, eqb-true, leb-true}
 use borrow.Author.Tests.{ltb-true, ltb-false, eqb-false}
 use Rattle.anstyle_parse.specs.Stream.Call.{Call, print, execute, hook, put as put_byte, unhook, osc_dispatch, csi_dispatch, esc_dispatch}
-use Rattle.ansi_screen.specs.declared.cell.Cell.{Cell}
 use Rattle.ansi_screen.specs.declared.function.Edit.{Edit}
 use Rattle.ansi_screen.specs.declared.function.Edit.TheVariants.{InsertCharacters, EraseInDisplay, EraseInLine, InsertLines, DeleteLines, DeleteCharacters, EraseCharacters}
 use Rattle.ansi_screen.specs.declared.function.Move.{Move}
@@ -17,29 +15,19 @@ use Rattle.ansi_screen.specs.declared.function.Setting.{Setting}
 use Rattle.ansi_screen.specs.declared.function.Setting.TheVariants.{Rendition, SetModes, ResetModes, Margins, ScrollUp, ScrollDown, ForwardTab, ClearStops, SaveCursor, RestoreCursor}
 use Rattle.ansi_screen.specs.declared.function.Function.{Function}
 use Rattle.ansi_screen.specs.declared.function.Function.TheVariants.{Edits, Moves, Sets, Nothing}
-use Rattle.ansi_screen.specs.Cells.{going_on, deleted, inserted}
-use Rattle.ansi_screen.specs.Display.{Display, Picture, here, row_start, row_end, fresh}
-use Rattle.ansi_screen.specs.History.{Kept, with_left}
+use Rattle.ansi_screen.specs.Cells.{going_on}
+use Rattle.ansi_screen.specs.Display.{Display, here, row_start, row_end}
+use Rattle.ansi_screen.specs.State.{Step}
 use Rattle.ansi_screen.specs.Links.{links_after, link_after}
 use Rattle.ansi_screen.specs.Moves.{to_row, to_column, settled, up, down, to_line, line_of, to_position, tabbed, tabbed_back, stop_before, column_of, with_stop, cleared_stops}
-use Rattle.ansi_screen.specs.Edits.{with_cells, space, row_goes_on, row_going_on, erased_cells, erased_part, erased_display, erased_line, erased_characters, deleted_characters, inserted_characters, rows_up, rows_down, scrolled_up, scrolled_down, is_in_margins, inserted_lines, deleted_lines, index, reverse_index, renewed, swapped, main_screen, row_above_ended, erases_from_row, erases_first, kept_by_erase, erases_all, kept_by_scroll}
-use Rattle.ansi_screen.specs.Text.{first_rows, printed_rows}
+use Rattle.ansi_screen.specs.Edits.{with_cells, row_goes_on, row_going_on, erased_cells, erased_part, erased_display, erased_line, erased_characters, deleted_characters, inserted_characters, rows_up, rows_down, scrolled_up, scrolled_down, is_in_margins, inserted_lines, deleted_lines, index, reverse_index, row_above_ended, erases_from_row, erases_first}
 use Rattle.ansi_screen.specs.Widths.{is_shown, columns}
 use Rattle.ansi_screen.specs.Print.{wrapped, with_room, with_cells_of, with_glyph, put, marked, shown, draws, printed, printed_again}
 use Rattle.ansi_screen.specs.Modes.{with_charset, restored, with_origin, with_margins, to_alternate, to_main, with_alternate, softly_reset, with_private_mode, with_mode, with_modes, first_field}
-use Rattle.ansi_screen.specs.After.{State, function_of, first_of, second_of, is_bare, count, is_known, edited, moved, set as set_by, controlled, sequenced, executed, escaped, designated, repeated, is_repeat, displayed}
+use Rattle.ansi_screen.specs.After.{function_of, first_of, second_of, is_bare, count, is_known, edited, moved, set as set_by, controlled, sequenced, executed, escaped, designated, repeated, is_repeat, step_of}
 use Rattle.ansi_screen.specs.Reachable.{IsScreen}
-use Rattle.ansi_screen.proofs.StayLemmas.{used-beside}
 use Rattle.ansi_screen.proofs.WholeLemmas.{length-going_on}
-use Rattle.ansi_screen.proofs.KeptLemmas.{drawn_if, Step, go, select, choose, save, restore, erase, join, delete, insert, rows_back, rows_on, write, add_mark, narrow, stop_at, to_other, back, soften, renew, set_wraps, set_inserts, set_visible, set_links, leave, row_end-inside, columns-few}
-
--- What is kept becomes something else, by a change that it does not matter for whether it comes before rows leave or after.
-abbrev pub IsBeside : (Option Kept → Option Kept) → Type 0
-IsBeside other = (rows : List (List Cell)) (history : Option Kept) → with_left rows (other history) ≡ other (with_left rows history)
-
--- nothing else is kept
-pub as-it-is : IsBeside (λ history. history)
-as-it-is rows history = refl
+use Rattle.ansi_screen.proofs.KeptLemmas.{drawn_if, Change, go, select, choose, save, restore, erase, join, delete, insert, rows_back, rows_on, write, add_mark, narrow, stop_at, to_other, back, soften, renew, set_wraps, set_inserts, set_visible, set_links, row_end-inside, columns-few}
 
 -- A call, and what REP repeats after it, print none but such characters; and it sets no private mode, where nothing
 -- switches.
@@ -111,49 +99,46 @@ long-above : (t : Bool) (d : Display) → length (if t then going_on false (row_
 long-above true d = length-going_on false (row_start d) d.cells
 long-above false d = refl
 
-module _ (prints : ℕ → Type 0) (switches : Type 0) (P : Display → Type 0) (closed : (d e : Display) → Step prints switches d e → P d → P e)
-    (picture : Picture) (other : Option Kept → Option Kept) (beside : IsBeside other) where
-  -- a display of which something else was shown, and something else is kept
-  abbrev pub beside_it : Display → Display
-  beside_it d = record d { shown = picture; history = other d.history }
-
-  -- From a display one comes to another, and from the one beside it to a third.
-  pub record Leads (d a b : Display) : Type 0 where
-    pub keeps : P d → P a
-    pub same : b ≡ beside_it a
-
-  -- by a function
+module _ (prints : ℕ → Type 0) (switches : Type 0) (P : Display → Type 0) (closed : (d e : Display) → Change prints switches d e → P d → P e) where
+  -- what a display has, another one has too: by a function, and after a step
   abbrev pub Walk : (Display → Display) → Display → Type 0
-  Walk f d = Leads d (f d) (f (beside_it d))
+  Walk f d = P d → P (f d)
 
-  stay : {d : Display} → Leads d d (beside_it d)
-  stay {d} = record { keeps = λ s. s; same = refl }
+  abbrev pub Turn : (Display → Step) → Display → Type 0
+  Turn f d = P d → P (f d).display
 
-  by : {d a b : Display} → Step prints switches d a → b ≡ beside_it a → Leads d a b
-  by {d} {a} {b} step same = record { keeps = closed d a step; same = same }
+  stay : {d : Display} → P d → P d
+  stay s = s
 
-  next : (g : Display → Display) {d a b : Display} → Leads d a b → Walk g a → Leads d (g a) (g b)
-  next g first second = record { keeps = λ s. second.keeps (first.keeps s); same = ap g first.same ∙ second.same }
+  by : {d a : Display} → Change prints switches d a → P d → P a
+  by {d} {a} change = closed d a change
 
-  either : (t : Bool) {d a b c e : Display} → (t ≡ true → Leads d a b) → (t ≡ false → Leads d c e)
-      → Leads d (if t then a else c) (if t then b else e)
+  next : {d a b : Display} → (P d → P a) → (P a → P b) → P d → P b
+  next first second = λ s. second (first s)
+
+  either : (t : Bool) {d a b : Display} → (t ≡ true → P d → P a) → (t ≡ false → P d → P b) → P d → P (if t then a else b)
   either true first second = first refl
   either false first second = second refl
 
+  pick : (t : Bool) {d : Display} (a b : Step) → (t ≡ true → P d → P a.display) → (t ≡ false → P d → P b.display)
+      → P d → P (if t then a else b).display
+  pick true a b first second = first refl
+  pick false a b first second = second refl
+
   times : (step : Display → Display) → ((d : Display) → Walk step d) → (n : ℕ) (d : Display) → Walk (iterate step n) d
   times step walk zero d = stay
-  times step walk (suc n) d = next (iterate step n) (walk d) (times step walk n (step d))
+  times step walk (suc n) d = next (walk d) (times step walk n (step d))
 
   -- moves of the cursor
   walk-row : (row : ℕ) (d : Display) → (IsScreen d → IsRow (min row (d.height - 1)) d) → Walk (to_row row) d
   walk-row row d inside =
       by (go (min row (d.height - 1)) d.cursor.column d.cursor.is_relative
-      (λ s. let some : 1 ≤ d.height = s.sized.a_row in (omega arith, s.sized.cursor_column, inside s))) refl
+      (λ s. let some : 1 ≤ d.height = s.sized.a_row in (omega arith, s.sized.cursor_column, inside s)))
 
   walk-column : (column : ℕ) (d : Display) → Walk (to_column column) d
   walk-column column d =
       by (go d.cursor.row (min column (d.width - 1)) d.cursor.is_relative
-      (λ s. let some : 2 ≤ d.width = s.sized.two_columns in (s.sized.cursor_row, omega arith, s.in_margins))) refl
+      (λ s. let some : 2 ≤ d.width = s.sized.two_columns in (s.sized.cursor_row, omega arith, s.in_margins)))
 
   walk-settled : (d : Display) → Walk settled d
   walk-settled d = walk-column d.cursor.column d
@@ -170,7 +155,7 @@ module _ (prints : ℕ → Type 0) (switches : Type 0) (P : Display → Type 0) 
       (λ s. line-inside d.top d.bottom d.height line d.cursor.is_relative d.cursor.is_relative refl s.sized.margins s.sized.margins_within)
 
   walk-position : (line column : ℕ) (d : Display) → Walk (to_position line column) d
-  walk-position line column d = next (to_column column) (walk-line line d) (walk-column column (to_line line d))
+  walk-position line column d = next (walk-line line d) (walk-column column (to_line line d))
 
   walk-tabbed : (d : Display) → Walk tabbed d
   unfolding tabbed
@@ -181,37 +166,16 @@ module _ (prints : ℕ → Type 0) (switches : Type 0) (P : Display → Type 0) 
   walk-tabbed_back d = walk-column (stop_before d.cursor.column d.tabs) d
 
   walk-stop : (stops : Bool) (d : Display) → Walk (with_stop stops) d
-  walk-stop stops d = by (stop_at (set d.tabs (column_of d) stops) (length-set d.tabs (column_of d) stops)) refl
+  walk-stop stops d = by (stop_at (set d.tabs (column_of d) stops) (length-set d.tabs (column_of d) stops))
 
   walk-cleared : (kind : ℕ) (d : Display) → Walk (cleared_stops kind) d
   walk-cleared kind d =
       either (kind == 0) (λ is. walk-stop false d)
-      (λ no. either (kind == 3) (λ is. by (stop_at (replicate (length d.tabs) false) (length-replicate (length d.tabs) false)) refl) (λ neither. stay))
-
-  -- rows that leave
-  same-kept : (t : Bool) (rows : List (List Cell)) (history : Option Kept)
-      → (if t then with_left rows (other history) else other history) ≡ other (if t then with_left rows history else history)
-  same-kept true rows history = beside rows history
-  same-kept false rows history = refl
-
-  same-rows : (d : Display) → printed_rows (beside_it d) ≡ printed_rows d
-  same-rows d = ap (λ n. first_rows n d) (used-beside picture (other d.history) d.height d)
-
-  walk-left : (history : Display → Option Kept) (d : Display) → history (beside_it d) ≡ other (history d) → Walk (λ x. record x { history = history x }) d
-  walk-left history d same = by (leave (history d)) (ap (λ (kept : Option Kept). record d { shown = picture; history = kept }) same)
-
-  same-main_rows : (d : Display) (t : Bool) → printed_rows (if t then swapped (beside_it d) else beside_it d) ≡ printed_rows (if t then swapped d else d)
-  same-main_rows d true = same-rows (swapped d)
-  same-main_rows d false = same-rows d
-
-  walk-renewed : (d : Display) → Walk renewed d
-  walk-renewed d =
-      by renew (ap (λ (kept : Option Kept). record (fresh d.width d.height) { shown = picture; history = kept })
-      (ap (λ rows. with_left rows (other d.history)) (same-main_rows d d.is_alternate) ∙ beside (printed_rows (main_screen d)) d.history))
+      (λ no. either (kind == 3) (λ is. by (stop_at (replicate (length d.tabs) false) (length-replicate (length d.tabs) false))) (λ neither. stay))
 
   -- edits of cells
   walk-erased : (start end : ℕ) (d : Display) → (IsScreen d → (start ≤ end) × (end ≤ length d.cells)) → Walk (erased_cells start end) d
-  walk-erased start end d within = by (erase start end within) refl
+  walk-erased start end d within = by (erase start end within)
 
   walk-part : (kind start end : ℕ) (d : Display) → (IsScreen d → (start ≤ here d) × (here d < end) × (end ≤ length d.cells)) → Walk (erased_part kind start end) d
   unfolding erased_part
@@ -221,35 +185,29 @@ module _ (prints : ℕ → Type 0) (switches : Type 0) (P : Display → Type 0) 
       (λ neither. walk-erased start end d (λ s. let all = within s in (omega (arith, all.0, all.1), all.2))))
 
   walk-above_at : (t : Bool) (d : Display) → Walk (λ x. with_cells (if t then going_on false (row_start x) x.cells else x.cells) x) d
-  walk-above_at true d = by (join false (row_start d)) refl
+  walk-above_at true d = by (join false (row_start d))
   walk-above_at false d = stay
 
   walk-above : (begun : Bool) (d : Display) → Walk (row_above_ended begun) d
   walk-above begun d = walk-above_at (begun && nat_lt 0 d.cursor.row) d
 
-  walk-erased_display : (kind : ℕ) (d : Display) → IsSettled d → Walk (erased_display kind) d
-  unfolding erased_display kept_by_erase erases_all erases_from_row
+  walk-erased_display : (kind : ℕ) (d : Display) → IsSettled d → Turn (erased_display kind) d
+  unfolding erased_display erases_from_row
   walk-erased_display kind d inside =
-      let left : Display = record d { history = kept_by_erase kind d } in
-      let ended : Display = row_above_ended (erases_from_row kind d) left in
-      next (erased_part kind 0 (length d.cells))
-      (next (row_above_ended (erases_from_row kind d))
-      (walk-left (kept_by_erase kind) d
-      (ap (λ rows. if erases_all kind d && not d.is_alternate then with_left rows (other d.history) else other d.history) (same-rows d)
-      ∙ same-kept (erases_all kind d && not d.is_alternate) (printed_rows d) d.history))
-      (walk-above (erases_from_row kind d) left))
+      let ended : Display = row_above_ended (erases_from_row kind d) d in
+      next (walk-above (erases_from_row kind d) d)
       (walk-part kind 0 (length d.cells) ended
       (λ s.
       let column : d.cursor.column < d.width = inside s.sized.two_columns in
       let end : row_end d ≤ length ended.cells = row_end-inside ended s in
-      let long : length ended.cells ≡ length d.cells = long-above (erases_from_row kind d && nat_lt 0 d.cursor.row) left in
+      let long : length ended.cells ≡ length d.cells = long-above (erases_from_row kind d && nat_lt 0 d.cursor.row) d in
       (omega arith, omega (arith, long), omega (arith, long))))
 
   walk-erased_line : (kind : ℕ) (d : Display) → IsSettled d → Walk (erased_line kind) d
   unfolding erased_line erases_first
   walk-erased_line kind d inside =
       let ended : Display = row_above_ended (erases_first kind d) d in
-      next (erased_part kind (row_start d) (row_end d)) (walk-above (erases_first kind d) d)
+      next (walk-above (erases_first kind d) d)
       (walk-part kind (row_start d) (row_end d) ended
       (λ s. let column : d.cursor.column < d.width = inside s.sized.two_columns in (omega arith, omega arith, row_end-inside ended s)))
 
@@ -260,38 +218,33 @@ module _ (prints : ℕ → Type 0) (switches : Type 0) (P : Display → Type 0) 
       (λ s.
       let column : d.cursor.column < d.width = inside s.sized.two_columns in
       let end : row_end d ≤ length d.cells = row_end-inside d s in
-      (omega arith, omega arith))) refl
+      (omega arith, omega arith)))
 
   walk-going_on : (on : Bool) (d : Display) → Walk (row_going_on on) d
-  walk-going_on on d = by (join on (row_end d)) refl
+  walk-going_on on d = by (join on (row_end d))
 
   walk-deleted : (n : ℕ) (d : Display) → IsSettled d → Walk (deleted_characters n) d
   unfolding deleted_characters
   walk-deleted n d inside =
-      next (λ x. with_cells (deleted n (here x) (row_end x) (space x) x.cells) x) (walk-going_on false d)
-      (by (delete n (λ s. inside s.sized.two_columns)) refl)
+      next (walk-going_on false d)
+      (by (delete n (λ s. inside s.sized.two_columns)))
 
   pub walk-inserted : (n : ℕ) (d : Display) → IsSettled d → Walk (inserted_characters n) d
   unfolding inserted_characters
   walk-inserted n d inside =
-      next (λ x. with_cells (inserted n (here x) (row_end x) (space x) x.cells) x) (walk-going_on false d)
-      (by (insert n (λ s. inside s.sized.two_columns)) refl)
+      next (walk-going_on false d)
+      (by (insert n (λ s. inside s.sized.two_columns)))
 
   walk-rows_up : (n first last : ℕ) (d : Display) → (IsScreen d → (first ≤ last) × (last ≤ d.height)) → Walk (rows_up n first last) d
   unfolding rows_up
-  walk-rows_up n first last d within = by (rows_back n first last within) refl
+  walk-rows_up n first last d within = by (rows_back n first last within)
 
   walk-rows_down : (n first last : ℕ) (d : Display) → (IsScreen d → (first ≤ last) × (last ≤ d.height)) → Walk (rows_down n first last) d
   unfolding rows_down
-  walk-rows_down n first last d within = by (rows_on n first last within) refl
+  walk-rows_down n first last d within = by (rows_on n first last within)
 
-  walk-scrolled_up : (n : ℕ) (d : Display) → Walk (scrolled_up n) d
-  unfolding kept_by_scroll
-  walk-scrolled_up n d =
-      next (rows_up n d.top d.bottom)
-      (walk-left (kept_by_scroll n) d (same-kept (d.top == 0 && not d.is_alternate) (first_rows (min n d.bottom) d) d.history))
-      (walk-rows_up n d.top d.bottom (record d { history = kept_by_scroll n d })
-      (λ s. let order : d.top < d.bottom = s.sized.margins in (omega arith, s.sized.margins_within)))
+  walk-scrolled_up : (n : ℕ) (d : Display) → Turn (scrolled_up n) d
+  walk-scrolled_up n d = walk-rows_up n d.top d.bottom d (λ s. let order : d.top < d.bottom = s.sized.margins in (omega arith, s.sized.margins_within))
 
   walk-scrolled_down : (n : ℕ) (d : Display) → Walk (scrolled_down n) d
   walk-scrolled_down n d =
@@ -301,20 +254,20 @@ module _ (prints : ℕ → Type 0) (switches : Type 0) (P : Display → Type 0) 
   unfolding inserted_lines
   walk-inserted_lines n d =
       either (is_in_margins d) (λ is. let below = in-margins d is in
-      next (to_column 0) (walk-rows_down n d.cursor.row d.bottom d (λ s. (omega (arith, below.1), s.sized.margins_within))) (walk-column 0 (rows_down n d.cursor.row d.bottom d)))
+      next (walk-rows_down n d.cursor.row d.bottom d (λ s. (omega (arith, below.1), s.sized.margins_within))) (walk-column 0 (rows_down n d.cursor.row d.bottom d)))
       (λ no. stay)
 
   walk-deleted_lines : (n : ℕ) (d : Display) → Walk (deleted_lines n) d
   unfolding deleted_lines
   walk-deleted_lines n d =
       either (is_in_margins d) (λ is. let below = in-margins d is in
-      next (to_column 0) (walk-rows_up n d.cursor.row d.bottom d (λ s. (omega (arith, below.1), s.sized.margins_within))) (walk-column 0 (rows_up n d.cursor.row d.bottom d)))
+      next (walk-rows_up n d.cursor.row d.bottom d (λ s. (omega (arith, below.1), s.sized.margins_within))) (walk-column 0 (rows_up n d.cursor.row d.bottom d)))
       (λ no. stay)
 
-  walk-index : (d : Display) → Walk index d
+  walk-index : (d : Display) → Turn index d
   unfolding index
   walk-index d =
-      either (d.cursor.row + 1 == d.bottom) (λ is. walk-scrolled_up 1 d)
+      pick (d.cursor.row + 1 == d.bottom) _ _ (λ is. walk-scrolled_up 1 d)
       (λ no. walk-row (d.cursor.row + 1) d
       (λ s relative.
       let inside : (d.top ≤ d.cursor.row) × (d.cursor.row < d.bottom) = s.in_margins relative in
@@ -334,24 +287,24 @@ module _ (prints : ℕ → Type 0) (switches : Type 0) (P : Display → Type 0) 
       (omega arith, omega arith)))
 
   -- printing
-  walk-wrapped : (n : ℕ) (d : Display) → Walk (wrapped n) d
+  walk-wrapped : (n : ℕ) (d : Display) → Turn (wrapped n) d
   unfolding wrapped
   walk-wrapped n d =
       let joined : Display = row_going_on true d in
-      either (nat_lt d.width (d.cursor.column + n)) (λ is. either d.wraps (λ on. next index (next (to_column 0) (walk-going_on true d) (walk-column 0 joined)) (walk-index (to_column 0 joined))) (λ off. walk-settled d))
+      pick (nat_lt d.width (d.cursor.column + n)) _ _ (λ is. pick d.wraps _ _ (λ on. next (next (walk-going_on true d) (walk-column 0 joined)) (walk-index (to_column 0 joined))) (λ off. walk-settled d))
       (λ fits. stay)
 
   module _ (c : ℕ) (drawing : Bool) (may : prints c) (is : is_shown c ≡ true) where
     walk-glyph : (n : ℕ) (d : Display) → columns (drawn_if drawing c) ≡ n → 1 ≤ n → n ≤ 2 → d.cursor.column + n ≤ d.width → Walk (with_glyph n (drawn_if drawing c)) d
     unfolding with_glyph with_cells_of
     walk-glyph n d wide some few fits =
-        next (row_going_on (row_goes_on d)) (by (write n c drawing may is wide some few fits) refl) (walk-going_on (row_goes_on d) (with_cells_of n (drawn_if drawing c) d))
+        next (by (write n c drawing may is wide some few fits)) (walk-going_on (row_goes_on d) (with_cells_of n (drawn_if drawing c) d))
 
     walk-room : (n : ℕ) (d : Display) (t : Bool) → columns (drawn_if drawing c) ≡ n → 1 ≤ n → n ≤ 2 → d.cursor.column + n ≤ d.width
         → Walk (λ x. with_glyph n (drawn_if drawing c) (if t then inserted_characters n x else x)) d
     unfolding inserted_characters
     walk-room n d true wide some few fits =
-        next (with_glyph n (drawn_if drawing c)) (walk-inserted n d (λ some_columns. omega arith)) (walk-glyph n (inserted_characters n d) wide some few fits)
+        next (walk-inserted n d (λ some_columns. omega arith)) (walk-glyph n (inserted_characters n d) wide some few fits)
     walk-room n d false wide some few fits = walk-glyph n d wide some few fits
 
     walk-put : (n : ℕ) (d : Display) → columns (drawn_if drawing c) ≡ n → 1 ≤ n → n ≤ 2 → Walk (put n (drawn_if drawing c)) d
@@ -361,19 +314,19 @@ module _ (prints : ℕ → Type 0) (switches : Type 0) (P : Display → Type 0) 
 
     walk-marked : (d : Display) → columns (drawn_if drawing c) ≡ 0 → Walk (marked (drawn_if drawing c)) d
     unfolding marked
-    walk-marked d none = either (d.cursor.column == 0) (λ first. stay) (λ no. by (add_mark c drawing may is none) refl)
+    walk-marked d none = either (d.cursor.column == 0) (λ first. stay) (λ no. by (add_mark c drawing may is none))
 
-    walk-shown : (d : Display) → Walk (shown (drawn_if drawing c)) d
+    walk-shown : (d : Display) → Turn (shown (drawn_if drawing c)) d
     unfolding shown
     walk-shown d =
         let n : ℕ = columns (drawn_if drawing c) in
-        either (n == 0) (λ none. walk-marked d (eqb-true n 0 none))
+        pick (n == 0) _ _ (λ none. walk-marked d (eqb-true n 0 none))
         (λ no. let some : n ≡ 0 → ⊥ = eqb-false n 0 no in
-        next (put n (drawn_if drawing c)) (walk-wrapped n d) (walk-put n (wrapped n d) refl (omega arith) (columns-few (drawn_if drawing c) _ _ refl refl)))
+        next (walk-wrapped n d) (walk-put n (wrapped n d).display refl (omega arith) (columns-few (drawn_if drawing c) _ _ refl refl)))
 
-  pub walk-printed : (c : ℕ) (d : Display) → prints c → Walk (printed c) d
+  pub walk-printed : (c : ℕ) (d : Display) → prints c → Turn (printed c) d
   unfolding printed
-  walk-printed c d may = either (is_shown c) (λ is. walk-shown c (draws d.cursor.charsets) may is d) (λ none. stay)
+  walk-printed c d may = pick (is_shown c) _ _ (λ is. walk-shown c (draws d.cursor.charsets) may is d) (λ none. stay)
 
   walk-again : (c : ℕ) (d : Display) → prints c → Walk (printed_again c) d
   unfolding printed_again
@@ -387,7 +340,7 @@ module _ (prints : ℕ → Type 0) (switches : Type 0) (P : Display → Type 0) 
   -- styles, character sets and saved cursors
   walk-charset : (sign final : ℕ) (d : Display) → Walk (with_charset sign final) d
   unfolding with_charset
-  walk-charset sign final d = either (sign == 0x28) (λ is. by (choose _) refl) (λ no. either (sign == 0x29) (λ is. by (choose _) refl) (λ neither. stay))
+  walk-charset sign final d = either (sign == 0x28) (λ is. by (choose _)) (λ no. either (sign == 0x29) (λ is. by (choose _)) (λ neither. stay))
 
   walk-restored : (d : Display) → Walk restored d
   unfolding restored
@@ -396,8 +349,8 @@ module _ (prints : ℕ → Type 0) (switches : Type 0) (P : Display → Type 0) 
       (λ s.
       let order : d.top < d.bottom = s.sized.margins in
       let end : d.bottom ≤ d.height = s.sized.margins_within in
-      (omega arith, s.sized.saved_column, λ relative. (omega arith, omega arith)))) refl)
-      (λ no. by (restore d.saved.row (λ s. (s.sized.saved_row, s.sized.saved_column, λ relative. cc))) refl)
+      (omega arith, s.sized.saved_column, λ relative. (omega arith, omega arith)))))
+      (λ no. by (restore d.saved.row (λ s. (s.sized.saved_row, s.sized.saved_column, λ relative. cc))))
 
   -- modes
   walk-origin : (on : Bool) (d : Display) → Walk (with_origin on) d
@@ -406,7 +359,7 @@ module _ (prints : ℕ → Type 0) (switches : Type 0) (P : Display → Type 0) 
       by (go (min (if on then min (d.top + 0) (d.bottom - 1) else 0) (d.height - 1)) (min 0 (d.width - 1)) on
       (λ s.
       let some : 1 ≤ d.height = s.sized.a_row in
-      (omega arith, omega arith, line-inside d.top d.bottom d.height 0 on on refl s.sized.margins s.sized.margins_within))) refl
+      (omega arith, omega arith, line-inside d.top d.bottom d.height 0 on on refl s.sized.margins s.sized.margins_within)))
 
   walk-margins : (first last : ℕ) (d : Display) → Walk (with_margins first last) d
   unfolding with_margins
@@ -417,41 +370,41 @@ module _ (prints : ℕ → Type 0) (switches : Type 0) (P : Display → Type 0) 
       by (narrow (max 1 first - 1) bottom (min (if d.cursor.is_relative then min (max 1 first - 1 + 0) (bottom - 1) else 0) (d.height - 1)) (min 0 (d.width - 1)) (omega arith) inside
       (λ s.
       let some : 1 ≤ d.height = s.sized.a_row in
-      (omega arith, omega arith, line-inside (max 1 first - 1) bottom d.height 0 d.cursor.is_relative d.cursor.is_relative refl (omega arith) inside))) refl)
+      (omega arith, omega arith, line-inside (max 1 first - 1) bottom d.height 0 d.cursor.is_relative d.cursor.is_relative refl (omega arith) inside))))
       (λ refused. stay)
 
   walk-to_main : (d : Display) → Walk to_main d
   unfolding to_main
-  walk-to_main d = either d.is_alternate (λ is. by back refl) (λ no. stay)
+  walk-to_main d = either d.is_alternate (λ is. by back) (λ no. stay)
 
   walk-alternate : (on : Bool) (d : Display) → switches → Walk (with_alternate on) d
   unfolding with_alternate to_alternate
-  walk-alternate true d may = either d.is_alternate (λ is. stay) (λ no. by (to_other may) refl)
-  walk-alternate false d may = next restored (walk-to_main d) (walk-restored (to_main d))
+  walk-alternate true d may = either d.is_alternate (λ is. stay) (λ no. by (to_other may))
+  walk-alternate false d may = next (walk-to_main d) (walk-restored (to_main d))
 
   walk-softly : (d : Display) → Walk softly_reset d
   unfolding softly_reset
-  walk-softly d = by soften refl
+  walk-softly d = by soften
 
   walk-private : switches → (on : Bool) (mode : ℕ) (d : Display) → Walk (with_private_mode on mode) d
   unfolding with_private_mode
   walk-private may on mode d =
       either (mode == 6) (λ is. walk-origin on d)
-      (λ a. either (mode == 7) (λ is. by (set_wraps on) refl)
-      (λ b. either (mode == 25) (λ is. by (set_visible on) refl)
+      (λ a. either (mode == 7) (λ is. by (set_wraps on))
+      (λ b. either (mode == 25) (λ is. by (set_visible on))
       (λ e. either (mode == 1049) (λ is. walk-alternate on d may) (λ none. stay))))
 
   walk-mode : (on : Bool) (mode : ℕ) (d : Display) → Walk (with_mode on mode) d
   unfolding with_mode
-  walk-mode on mode d = either (mode == 4) (λ is. by (set_inserts on) refl) (λ none. stay)
+  walk-mode on mode d = either (mode == 4) (λ is. by (set_inserts on)) (λ none. stay)
 
   walk-modes : (how : ℕ → Display → Display) → ((mode : ℕ) (d : Display) → Walk (how mode) d)
       → (groups : List (List ℕ)) (d : Display) → Walk (with_modes how groups) d
   walk-modes how walk [] d = stay
-  walk-modes how walk (group ∷ groups) d = next (with_modes how groups) (walk (first_field group) d) (walk-modes how walk groups (how (first_field group) d))
+  walk-modes how walk (group ∷ groups) d = next (walk (first_field group) d) (walk-modes how walk groups (how (first_field group) d))
 
   -- control functions
-  walk-edited : (edit : Edit) (n : ℕ) (d : Display) → IsSettled d → Walk (edited edit n) d
+  walk-edited : (edit : Edit) (n : ℕ) (d : Display) → IsSettled d → Turn (edited edit n) d
   unfolding edited
   walk-edited InsertCharacters n d inside = walk-inserted (count n) d inside
   walk-edited EraseInDisplay n d inside = walk-erased_display n d inside
@@ -467,17 +420,17 @@ module _ (prints : ℕ → Type 0) (switches : Type 0) (P : Display → Type 0) 
   walk-moved Down n column d = walk-down (count n) d
   walk-moved Forward n column d = walk-column (d.cursor.column + count n) d
   walk-moved Back n column d = walk-column (d.cursor.column - count n) d
-  walk-moved NextLine n column d = next (to_column 0) (walk-down (count n) d) (walk-column 0 (down (count n) d))
-  walk-moved PrecedingLine n column d = next (to_column 0) (walk-up (count n) d) (walk-column 0 (up (count n) d))
+  walk-moved NextLine n column d = next (walk-down (count n) d) (walk-column 0 (down (count n) d))
+  walk-moved PrecedingLine n column d = next (walk-up (count n) d) (walk-column 0 (up (count n) d))
   walk-moved Column n column d = walk-column (count n - 1) d
   walk-moved Line n column d = walk-line (count n - 1) d
   walk-moved LineForward n column d = walk-line (line_of d + count n) d
   walk-moved Position n column d = walk-position (count n - 1) (count column - 1) d
   walk-moved BackTab n column d = times tabbed_back walk-tabbed_back (min (count n) d.width) d
 
-  walk-set : (setting : Setting) (groups : List (List ℕ)) (d : Display) → Walk (set_by setting groups) d
+  walk-set : (setting : Setting) (groups : List (List ℕ)) (d : Display) → Turn (set_by setting groups) d
   unfolding set_by
-  walk-set Rendition groups d = by (select groups) refl
+  walk-set Rendition groups d = by (select groups)
   walk-set SetModes groups d = walk-modes (with_mode true) (walk-mode true) groups d
   walk-set ResetModes groups d = walk-modes (with_mode false) (walk-mode false) groups d
   walk-set Margins groups d = walk-margins (first_of groups) (second_of groups) d
@@ -485,65 +438,63 @@ module _ (prints : ℕ → Type 0) (switches : Type 0) (P : Display → Type 0) 
   walk-set ScrollDown groups d = walk-scrolled_down (count (first_of groups)) d
   walk-set ForwardTab groups d = times tabbed walk-tabbed (min (count (first_of groups)) d.width) d
   walk-set ClearStops groups d = walk-cleared (first_of groups) d
-  walk-set SaveCursor groups d = either (is_bare groups) (λ bare. by save refl) (λ numbers. stay)
-  walk-set RestoreCursor groups d = either (is_bare groups) (λ bare. walk-restored d) (λ numbers. stay)
+  walk-set SaveCursor groups d = pick (is_bare groups) _ _ (λ bare. by save) (λ numbers. stay)
+  walk-set RestoreCursor groups d = pick (is_bare groups) _ _ (λ bare. walk-restored d) (λ numbers. stay)
 
-  walk-controlled : (function : Function) (groups : List (List ℕ)) (d : Display) → Walk (controlled function groups) d
+  walk-controlled : (function : Function) (groups : List (List ℕ)) (d : Display) → Turn (controlled function groups) d
   unfolding controlled
   walk-controlled (Edits edit) groups d =
-      either (is_known edit (first_of groups)) (λ known. next (edited edit (first_of groups)) (walk-settled d) (walk-edited edit (first_of groups) (settled d) (is-settled d))) (λ unknown. stay)
+      pick (is_known edit (first_of groups)) _ _ (λ known. next (walk-settled d) (walk-edited edit (first_of groups) (settled d) (is-settled d))) (λ unknown. stay)
   walk-controlled (Moves move) groups d =
-      next (moved move (first_of groups) (second_of groups)) (walk-settled d) (walk-moved move (first_of groups) (second_of groups) (settled d))
+      next (walk-settled d) (walk-moved move (first_of groups) (second_of groups) (settled d))
   walk-controlled (Sets setting) groups d = walk-set setting groups d
   walk-controlled Nothing groups d = stay
 
-  walk-sequenced : (groups : List (List ℕ)) (intermediates : List ℕ) (final : ℕ) (d : Display) → MaySet switches intermediates → Walk (sequenced groups intermediates final) d
+  walk-sequenced : (groups : List (List ℕ)) (intermediates : List ℕ) (final : ℕ) (d : Display) → MaySet switches intermediates → Turn (sequenced groups intermediates final) d
   unfolding sequenced
   walk-sequenced groups [] final d may = walk-controlled (function_of final) groups d
   walk-sequenced groups (sign ∷ []) final d may =
-      either (sign == 0x3F && final == 0x68) (λ is. walk-modes (with_private_mode true) (walk-private may true) groups d)
-      (λ a. either (sign == 0x3F && final == 0x6C) (λ is. walk-modes (with_private_mode false) (walk-private may false) groups d)
-      (λ b. either (sign == 0x21 && final == 0x70) (λ is. walk-softly d) (λ none. stay)))
+      pick (sign == 0x3F && final == 0x68) _ _ (λ is. walk-modes (with_private_mode true) (walk-private may true) groups d)
+      (λ a. pick (sign == 0x3F && final == 0x6C) _ _ (λ is. walk-modes (with_private_mode false) (walk-private may false) groups d)
+      (λ b. pick (sign == 0x21 && final == 0x70) _ _ (λ is. walk-softly d) (λ none. stay)))
   walk-sequenced groups (sign ∷ second ∷ others) final d may = stay
 
-  walk-executed : (byte : ℕ) (d : Display) → Walk (executed byte) d
+  walk-executed : (byte : ℕ) (d : Display) → Turn (executed byte) d
   unfolding executed
   walk-executed byte d =
-      either (byte == 0x08) (λ is. next (λ x. to_column (x.cursor.column - 1) x) (walk-settled d) (walk-column ((settled d).cursor.column - 1) (settled d)))
-      (λ a. either (byte == 0x09) (λ is. walk-tabbed d)
-      (λ b. either (byte == 0x0A || byte == 0x0B || byte == 0x0C) (λ is. next index (walk-settled d) (walk-index (settled d)))
-      (λ e. either (byte == 0x0D) (λ is. walk-column 0 d)
-      (λ f. either (byte == 0x0E) (λ is. by (choose _) refl)
-      (λ g. either (byte == 0x0F) (λ is. by (choose _) refl) (λ none. stay))))))
+      pick (byte == 0x08) _ _ (λ is. next (walk-settled d) (walk-column ((settled d).cursor.column - 1) (settled d)))
+      (λ a. pick (byte == 0x09) _ _ (λ is. walk-tabbed d)
+      (λ b. pick (byte == 0x0A || byte == 0x0B || byte == 0x0C) _ _ (λ is. next (walk-settled d) (walk-index (settled d)))
+      (λ e. pick (byte == 0x0D) _ _ (λ is. walk-column 0 d)
+      (λ f. pick (byte == 0x0E) _ _ (λ is. by (choose _))
+      (λ g. pick (byte == 0x0F) _ _ (λ is. by (choose _)) (λ none. stay))))))
 
-  walk-escaped : (final : ℕ) (d : Display) → Walk (escaped final) d
+  walk-escaped : (final : ℕ) (d : Display) → Turn (escaped final) d
   unfolding escaped
   walk-escaped final d =
-      either (final == 0x37) (λ is. by save refl)
-      (λ a. either (final == 0x38) (λ is. walk-restored d)
-      (λ b. either (final == 0x44) (λ is. next index (walk-settled d) (walk-index (settled d)))
-      (λ e. either (final == 0x45) (λ is. next index (walk-column 0 d) (walk-index (to_column 0 d)))
-      (λ f. either (final == 0x48) (λ is. walk-stop true d)
-      (λ g. either (final == 0x4D) (λ is. next reverse_index (walk-settled d) (walk-reverse (settled d)))
-      (λ h. either (final == 0x63) (λ is. walk-renewed d) (λ none. stay)))))))
+      pick (final == 0x37) _ _ (λ is. by save)
+      (λ a. pick (final == 0x38) _ _ (λ is. walk-restored d)
+      (λ b. pick (final == 0x44) _ _ (λ is. next (walk-settled d) (walk-index (settled d)))
+      (λ e. pick (final == 0x45) _ _ (λ is. next (walk-column 0 d) (walk-index (to_column 0 d)))
+      (λ f. pick (final == 0x48) _ _ (λ is. walk-stop true d)
+      (λ g. pick (final == 0x4D) _ _ (λ is. next (walk-settled d) (walk-reverse (settled d)))
+      (λ h. pick (final == 0x63) _ _ (λ is. by renew) (λ none. stay)))))))
 
-  walk-designated : (intermediates : List ℕ) (final : ℕ) (d : Display) → Walk (designated intermediates final) d
+  walk-designated : (intermediates : List ℕ) (final : ℕ) (d : Display) → Turn (designated intermediates final) d
   unfolding designated
   walk-designated [] final d = walk-escaped final d
   walk-designated (sign ∷ []) final d = walk-charset sign final d
   walk-designated (sign ∷ second ∷ others) final d = stay
 
   -- each call
-  pub walk : (call : Call) (s : State) → MayBe prints switches call → MayRepeat prints s.last
-      → Leads s.display (displayed call s) (displayed call (record s { display = beside_it s.display }))
-  walk (print c) s may last = walk-printed c s.display may
-  walk (execute byte) s may last = walk-executed byte s.display
-  walk (csi_dispatch groups intermediates ignore final) s may last =
-      either ignore (λ more. stay)
-      (λ whole. either (is_repeat intermediates final) (λ repeats. walk-repeated (count (first_of groups)) s.last s.display last) (λ no. walk-sequenced groups intermediates final s.display may))
-  walk (esc_dispatch intermediates ignore final) s may last = either ignore (λ more. stay) (λ whole. walk-designated intermediates final s.display)
-  walk (hook groups intermediates ignore final) s may last = stay
-  walk (put_byte byte) s may last = stay
-  walk unhook s may last = stay
-  walk (osc_dispatch parts bell) s may last =
-      by (set_links (links_after parts s.display.links) (link_after parts s.display.links s.display.link)) refl
+  pub walk : (call : Call) (last : Option ℕ) (d : Display) → MayBe prints switches call → MayRepeat prints last → Turn (step_of call last) d
+  walk (print c) last d may repeats = walk-printed c d may
+  walk (execute byte) last d may repeats = walk-executed byte d
+  walk (csi_dispatch groups intermediates ignore final) last d may repeats =
+      pick ignore _ _ (λ more. stay)
+      (λ whole. pick (is_repeat intermediates final) _ _ (λ is. walk-repeated (count (first_of groups)) last d repeats) (λ no. walk-sequenced groups intermediates final d may))
+  walk (esc_dispatch intermediates ignore final) last d may repeats = pick ignore _ _ (λ more. stay) (λ whole. walk-designated intermediates final d)
+  walk (hook groups intermediates ignore final) last d may repeats = stay
+  walk (put_byte byte) last d may repeats = stay
+  walk unhook last d may repeats = stay
+  walk (osc_dispatch parts bell) last d may repeats = by (set_links (links_after parts d.links) (link_after parts d.links d.link))

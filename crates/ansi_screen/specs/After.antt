@@ -1,4 +1,4 @@
--- What each call of a parser does to a display: the whole meaning.
+-- What each call of a parser makes of a display, and which rows leave by it: the whole meaning.
 --
 -- Sources: xterm's ctlseqs, "Controls beginning with ESC" and "Functions using CSI"; ECMA-48,
 -- 8.3, for the names.
@@ -16,7 +16,9 @@ use Rattle.ansi_screen.specs.declared.function.Setting.{Setting}
 use Rattle.ansi_screen.specs.declared.function.Setting.TheVariants.{Rendition, SetModes, ResetModes, Margins, ScrollUp, ScrollDown, ForwardTab, ClearStops, SaveCursor, RestoreCursor}
 use Rattle.ansi_screen.specs.declared.function.Function.{Function}
 use Rattle.ansi_screen.specs.declared.function.Function.TheVariants.{Edits, Moves, Sets, Nothing}
-use Rattle.ansi_screen.specs.Display.{Display, fresh, forgotten}
+use Rattle.ansi_screen.specs.Display.{Display}
+use Rattle.ansi_screen.specs.State.{Step, stays, unchanged, stepped}
+pub use Rattle.ansi_screen.specs.State.{State, new_state, as_shown}
 use Rattle.ansi_screen.specs.Links.{commanded}
 use Rattle.ansi_screen.specs.Moves.{to_column, settled, up, down, to_line, line_of, to_position, tabbed, tabbed_back, with_stop, cleared_stops}
 use Rattle.ansi_screen.specs.Edits.{erased_display, erased_line, erased_characters, deleted_characters, inserted_characters, inserted_lines, deleted_lines, scrolled_up, scrolled_down, index, reverse_index, renewed}
@@ -68,14 +70,14 @@ is_known EraseInLine n = nat_le n 2
 is_known edit n = true
 
 -- Edits of cells by a known number, in a display in which no wrap is pending.
-unfoldable pub edited : Edit → ℕ → Display → Display
-edited InsertCharacters n d = inserted_characters (count n) d
+unfoldable pub edited : Edit → ℕ → Display → Step
+edited InsertCharacters n d = stays (inserted_characters (count n)) d
 edited EraseInDisplay n d = erased_display n d
-edited EraseInLine n d = erased_line n d
-edited InsertLines n d = inserted_lines (count n) d
-edited DeleteLines n d = deleted_lines (count n) d
-edited DeleteCharacters n d = deleted_characters (count n) d
-edited EraseCharacters n d = erased_characters (count n) d
+edited EraseInLine n d = stays (erased_line n) d
+edited InsertLines n d = stays (inserted_lines (count n)) d
+edited DeleteLines n d = stays (deleted_lines (count n)) d
+edited DeleteCharacters n d = stays (deleted_characters (count n)) d
+edited EraseCharacters n d = stays (erased_characters (count n)) d
 
 -- Moves of the cursor, in such a display too.
 unfoldable pub moved : Move → ℕ → ℕ → Display → Display
@@ -92,77 +94,63 @@ moved Position n column d = to_position (count n - 1) (count column - 1) d
 moved BackTab n column d = iterate tabbed_back (min (count n) d.width) d
 
 -- What leaves a pending wrap as it is.
-unfoldable pub set : Setting → List (List ℕ) → Display → Display
-set Rendition groups d = with_style groups d
-set SetModes groups d = with_modes (with_mode true) groups d
-set ResetModes groups d = with_modes (with_mode false) groups d
-set Margins groups d = with_margins (first_of groups) (second_of groups) d
+unfoldable pub set : Setting → List (List ℕ) → Display → Step
+set Rendition groups d = stays (with_style groups) d
+set SetModes groups d = stays (with_modes (with_mode true) groups) d
+set ResetModes groups d = stays (with_modes (with_mode false) groups) d
+set Margins groups d = stays (with_margins (first_of groups) (second_of groups)) d
 set ScrollUp groups d = scrolled_up (count (first_of groups)) d
-set ScrollDown groups d = scrolled_down (count (first_of groups)) d
-set ForwardTab groups d = iterate tabbed (min (count (first_of groups)) d.width) d
-set ClearStops groups d = cleared_stops (first_of groups) d
-set SaveCursor groups d = if is_bare groups then saving d else d
-set RestoreCursor groups d = if is_bare groups then restored d else d
+set ScrollDown groups d = stays (scrolled_down (count (first_of groups))) d
+set ForwardTab groups d = stays (iterate tabbed (min (count (first_of groups)) d.width)) d
+set ClearStops groups d = stays (cleared_stops (first_of groups)) d
+set SaveCursor groups d = if is_bare groups then stays saving d else unchanged d
+set RestoreCursor groups d = if is_bare groups then stays restored d else unchanged d
 
-unfoldable pub controlled : Function → List (List ℕ) → Display → Display
+unfoldable pub controlled : Function → List (List ℕ) → Display → Step
 controlled (Edits edit) groups d =
-    if is_known edit (first_of groups) then edited edit (first_of groups) (settled d) else d
-controlled (Moves move) groups d = moved move (first_of groups) (second_of groups) (settled d)
+    if is_known edit (first_of groups) then edited edit (first_of groups) (settled d) else unchanged d
+controlled (Moves move) groups d = stays (moved move (first_of groups) (second_of groups)) (settled d)
 controlled (Sets setting) groups d = set setting groups d
-controlled Nothing groups d = d
+controlled Nothing groups d = unchanged d
 
 -- a control sequence whose intermediates are none; ? for private modes; ! for DECSTR
-unfoldable pub sequenced : List (List ℕ) → List ℕ → ℕ → Display → Display
+unfoldable pub sequenced : List (List ℕ) → List ℕ → ℕ → Display → Step
 sequenced groups [] final d = controlled (function_of final) groups d
 sequenced groups (mark ∷ []) final d =
-    if mark == 0x3F && final == 0x68 then with_modes (with_private_mode true) groups d
-    else if mark == 0x3F && final == 0x6C then with_modes (with_private_mode false) groups d
-    else if mark == 0x21 && final == 0x70 then softly_reset d
-    else d
-sequenced groups (mark ∷ other ∷ others) final d = d
+    if mark == 0x3F && final == 0x68 then stays (with_modes (with_private_mode true) groups) d
+    else if mark == 0x3F && final == 0x6C then stays (with_modes (with_private_mode false) groups) d
+    else if mark == 0x21 && final == 0x70 then stays softly_reset d
+    else unchanged d
+sequenced groups (mark ∷ other ∷ others) final d = unchanged d
 
 -- BS, HT, LF VT FF, CR, SO, SI
-unfoldable pub executed : ℕ → Display → Display
+unfoldable pub executed : ℕ → Display → Step
 executed byte d =
-    if byte == 0x08 then (let place = settled d in to_column (place.cursor.column - 1) place)
-    else if byte == 0x09 then tabbed d
+    if byte == 0x08 then stays (λ place. to_column (place.cursor.column - 1) place) (settled d)
+    else if byte == 0x09 then stays tabbed d
     else if byte == 0x0A || byte == 0x0B || byte == 0x0C then index (settled d)
-    else if byte == 0x0D then to_column 0 d
-    else if byte == 0x0E then shifted true d
-    else if byte == 0x0F then shifted false d
-    else d
+    else if byte == 0x0D then stays (to_column 0) d
+    else if byte == 0x0E then stays (shifted true) d
+    else if byte == 0x0F then stays (shifted false) d
+    else unchanged d
 
 -- ESC 7, 8, D, E, H, M, c: DECSC, DECRC, IND, NEL, HTS, RI, RIS
-unfoldable pub escaped : ℕ → Display → Display
+unfoldable pub escaped : ℕ → Display → Step
 escaped final d =
-    if final == 0x37 then saving d
-    else if final == 0x38 then restored d
+    if final == 0x37 then stays saving d
+    else if final == 0x38 then stays restored d
     else if final == 0x44 then index (settled d)
     else if final == 0x45 then index (to_column 0 d)
-    else if final == 0x48 then with_stop true d
-    else if final == 0x4D then reverse_index (settled d)
+    else if final == 0x48 then stays (with_stop true) d
+    else if final == 0x4D then stays reverse_index (settled d)
     else if final == 0x63 then renewed d
-    else d
+    else unchanged d
 
 -- An escape sequence with an intermediate designates a character set.
-unfoldable pub designated : List ℕ → ℕ → Display → Display
+unfoldable pub designated : List ℕ → ℕ → Display → Step
 designated [] final d = escaped final d
-designated (mark ∷ []) final d = with_charset mark final d
-designated (mark ∷ other ∷ others) final d = d
-
--- REP prints the character of the call just before again, and changes nothing after any other
--- call, also after another REP: what it repeats is kept beside the display.
-pub record State : Type 0 where
-  pub display : Display
-  pub last : Option ℕ
-
--- a new screen
-abbrev pub new_state : ℕ → ℕ → State
-new_state width height = record { display = fresh width height; last = None }
-
--- its damage is forgotten: as it is, it is shown
-abbrev pub as_shown : State → State
-as_shown s = record s { display = forgotten s.display }
+designated (mark ∷ []) final d = stays (with_charset mark final) d
+designated (mark ∷ other ∷ others) final d = unchanged d
 
 -- marks, and what has no glyph, are not repeated
 unfoldable pub repeatable : ℕ → Option ℕ
@@ -175,27 +163,28 @@ unfoldable pub repeated : ℕ → Option ℕ → Display → Display
 repeated n None d = d
 repeated n (Some c) d = iterate (printed_again c) (min n d.width) d
 
--- The display after a call. What more came than a call shows, makes it one that is not known.
-abbrev pub displayed : Call → State → Display
-displayed (print c) s = printed c s.display
-displayed (execute byte) s = executed byte s.display
-displayed (osc_dispatch parts bell_terminated) s = commanded parts s.display
-displayed (csi_dispatch groups intermediates ignore final) s =
-    if ignore then s.display
-    else if is_repeat intermediates final then repeated (count (first_of groups)) s.last s.display
-    else sequenced groups intermediates final s.display
-displayed (esc_dispatch intermediates ignore final) s =
-    if ignore then s.display else designated intermediates final s.display
-displayed call s = s.display
+-- What a call makes of a display, where REP repeats `last`. What more came than a call shows, makes it one that is not
+-- known.
+abbrev pub step_of : Call → (last : Option ℕ) → Display → Step
+step_of (print c) last d = printed c d
+step_of (execute byte) last d = executed byte d
+step_of (osc_dispatch parts bell_terminated) last d = stays (commanded parts) d
+step_of (csi_dispatch groups intermediates ignore final) last d =
+    if ignore then unchanged d
+    else if is_repeat intermediates final then stays (repeated (count (first_of groups)) last) d
+    else sequenced groups intermediates final d
+step_of (esc_dispatch intermediates ignore final) last d =
+    if ignore then unchanged d else designated intermediates final d
+step_of call last d = unchanged d
 
 -- what a call leaves to REP
 abbrev pub left_to_repeat : Call → Option ℕ
 left_to_repeat (print c) = repeatable c
 left_to_repeat call = None
 
--- The screen after a call.
+-- The screen after a call: what was shown of it, and what it keeps, decides nothing.
 abbrev pub after : Call → State → State
-after call s = record { display = displayed call s; last = left_to_repeat call }
+after call s = record (stepped (step_of call s.last) s) { last = left_to_repeat call }
 
 -- the screen after a list of calls
 abbrev pub after_all : List Call → State → State

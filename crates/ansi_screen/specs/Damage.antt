@@ -6,8 +6,9 @@ use Rattle.std.specs.Prelude.{◌≡◌, ◌≤◌, ◌⊎◌, ⊤, ℕ, Option,
 use Rattle.ansi_screen.specs.declared.cell.Cell.{Cell}
 use Rattle.ansi_screen.specs.declared.damage.Span.{Span}
 use Rattle.ansi_screen.specs.Cells.{cell_at}
-use Rattle.ansi_screen.specs.Display.{Display, Picture, picture, IsSized, most_columns}
+use Rattle.ansi_screen.specs.Display.{Picture, picture, IsSized, most_columns}
 use Rattle.ansi_screen.specs.History.{Kept}
+use Rattle.ansi_screen.specs.State.{State}
 
 -- what is noted: of each row the columns that were written, and whether the frame can have changed
 pub record Noted : Type 0 where
@@ -52,13 +53,13 @@ abbrev pub HasHistory : (width : ℕ) → Option Kept → Type 0
 HasHistory width None = ⊤
 HasHistory width (Some kept) = kept.columns ≡ width
 
--- What holds of a display in memory: sizes and places, room for rows that leave, a span for each row, and all that can
+-- What holds of a screen in memory: sizes and places, room for rows that leave, a span for each row, and all that can
 -- have changed is noted.
-pub record IsDisplay (noted : Noted) (d : Display) : Type 0 where
-  pub sized : IsSized d
-  pub kept : HasHistory d.width d.history
-  pub long : length noted.spans ≡ d.height
-  pub damage : HasDamage d.width d.height noted d.shown (picture d)
+pub record IsNoted (noted : Noted) (s : State) : Type 0 where
+  pub sized : IsSized s.display
+  pub kept : HasHistory s.display.width s.history
+  pub long : length noted.spans ≡ s.display.height
+  pub damage : HasDamage s.display.width s.display.height noted s.shown (picture s.display)
 
 -- Of other rows than those from one up to another no column was written.
 pub record AreEmptyBeside (first past : ℕ) (spans : List Span) : Type 0 where

@@ -1,13 +1,12 @@
 -- A terminal's display: its cells, and all that decides what a call does to it.
 --
 -- Rows and columns count from 0, row by row from the top left, in one flat list of cells.
-use Rattle.std.specs.Prelude.{◌≡◌, ℕ, zero, suc, Option, None, ◌+◌, ◌*◌, ◌%◌, ◌<◌, ◌≤◌, Bool, true, false, ◌==◌, List, [], ◌∷◌, ◌++◌, length, take, drop, replicate}
+use Rattle.std.specs.Prelude.{◌≡◌, ℕ, zero, suc, ◌+◌, ◌*◌, ◌%◌, ◌<◌, ◌≤◌, Bool, true, false, ◌==◌, List, [], ◌∷◌, ◌++◌, length, take, drop, replicate}
 use Rattle.ansi_style.specs.Style.{plain}
 use Rattle.ansi_screen.specs.declared.cell.Cell.{Cell}
 use Rattle.ansi_screen.specs.declared.place.Charsets.{Charsets}
 use Rattle.ansi_screen.specs.declared.place.Place.{Place}
 use Rattle.ansi_screen.specs.Cells.{blank}
-use Rattle.ansi_screen.specs.History.{Kept}
 
 -- What decides, beside the cells that show, what a call does: what was saved, margins, tabs, and the alternate screen
 -- with what it covers.
@@ -51,10 +50,6 @@ pub record Display : Type 0 where
   pub is_alternate : Bool
   pub hidden : List Cell
   pub hidden_saved : Place
-  -- the picture of it when its damage (`Damage`) was last forgotten; no call reads it
-  pub shown : Picture
-  -- what it keeps of the rows that left it, if it keeps any; no call reads it
-  pub history : Option Kept
 
 -- its picture
 abbrev pub picture : Display → Picture
@@ -70,10 +65,6 @@ picture d = record {
     hidden_saved = d.hidden_saved;
   };
 }
-
--- its damage is forgotten: as it is, it is shown
-abbrev pub forgotten : Display → Display
-forgotten d = record d { shown = picture d }
 
 -- limits of the sizes that are taken
 abbrev pub most_columns : ℕ
@@ -99,7 +90,7 @@ stops (suc n) = stops n ++ (n % 8 == 0) ∷ []
 abbrev pub blanks : ℕ → ℕ → List Cell
 blanks width height = replicate (height * width) (blank plain)
 
--- A new display, of which nothing was shown but blanks, and which keeps no rows that leave it.
+-- A new display.
 abbrev pub fresh : ℕ → ℕ → Display
 fresh width height = record {
   width = width;
@@ -118,19 +109,6 @@ fresh width height = record {
   is_alternate = false;
   hidden = blanks width height;
   hidden_saved = home;
-  shown = record {
-    cells = blanks width height;
-    frame = record {
-      saved = home;
-      top = 0;
-      bottom = height;
-      tabs = stops width;
-      is_alternate = false;
-      hidden = blanks width height;
-      hidden_saved = home;
-    };
-  };
-  history = None;
 }
 
 -- What holds of the sizes and places of every display.
@@ -164,7 +142,3 @@ here d = d.cursor.row * d.width + d.cursor.column
 -- the cells of a row
 abbrev pub row_cells : ℕ → Display → List Cell
 row_cells row d = take d.width (drop (row * d.width) d.cells)
-
--- and those of the row when the damage was last forgotten
-abbrev pub shown_cells : ℕ → Display → List Cell
-shown_cells row d = take d.width (drop (row * d.width) d.shown.cells)

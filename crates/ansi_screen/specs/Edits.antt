@@ -9,11 +9,11 @@
 -- its ctlseqs, 1049 (nothing of the alternate screen is saved). Before ED 2 and RIS tmux saves the rows up to the last
 -- that is used (`grid_view_clear_history`), and before ED 0 at the first cell too (`screen_write_clearendofscreen`), as `clear`
 -- erases where a terminal's description has no ED 2; before ED 2 VTE does so (`clear_screen`); xterm does not.
-use Rattle.std.specs.Prelude.{ℕ, ◌+◌, ◌-◌, ◌*◌, min, Option, Bool, true, false, ◌&&◌, ◌||◌, not, ◌==◌, nat_lt, nat_le, List, length, if◌then◌else◌}
+use Rattle.std.specs.Prelude.{ℕ, ◌+◌, ◌-◌, ◌*◌, min, Bool, true, false, ◌&&◌, ◌||◌, not, ◌==◌, nat_lt, nat_le, List, [], length, if◌then◌else◌}
 use Rattle.ansi_screen.specs.declared.cell.Cell.{Cell}
 use Rattle.ansi_screen.specs.Cells.{blank, cell_at, going_on, within, change, erased, moved_back, moved_on, deleted, inserted}
 use Rattle.ansi_screen.specs.Display.{Display, fresh, here, row_start, row_end}
-use Rattle.ansi_screen.specs.History.{Kept, with_left}
+use Rattle.ansi_screen.specs.State.{Step, stays}
 use Rattle.ansi_screen.specs.Moves.{to_row, to_column}
 use Rattle.ansi_screen.specs.Text.{first_rows, printed_rows}
 
@@ -52,14 +52,15 @@ erases_first kind d = if kind == 0 then d.cursor.column == 0 else true
 unfoldable pub erases_all : ℕ → Display → Bool
 erases_all kind d = kind == 2 || (kind == 0 && (d.cursor.row == 0 && d.cursor.column == 0))
 
--- What takes away all of the screen that shows.
-unfoldable pub kept_by_erase : ℕ → Display → Option Kept
-kept_by_erase kind d = if erases_all kind d && not d.is_alternate then with_left (printed_rows d) d.history else d.history
+-- Where ED takes away all of the main screen, its rows leave.
+unfoldable pub left_by_erase : ℕ → Display → List (List Cell)
+left_by_erase kind d = if erases_all kind d && not d.is_alternate then printed_rows d else []
 
-unfoldable pub erased_display : ℕ → Display → Display
-erased_display kind d =
-    erased_part kind 0 (length d.cells)
-    (row_above_ended (erases_from_row kind d) (record d { history = kept_by_erase kind d }))
+unfoldable pub erased_display : ℕ → Display → Step
+erased_display kind d = record {
+  display = erased_part kind 0 (length d.cells) (row_above_ended (erases_from_row kind d) d);
+  left = left_by_erase kind d;
+}
 
 unfoldable pub erased_line : ℕ → Display → Display
 erased_line kind d = erased_part kind (row_start d) (row_end d) (row_above_ended (erases_first kind d) d)
@@ -97,13 +98,12 @@ rows_down n first last d =
     with_cells (within (first * d.width) (last * d.width) (moved_on (n * d.width) (space d)) d.cells) d
 
 -- of n rows that scroll up within the margins those at the top of the main screen leave
-unfoldable pub kept_by_scroll : ℕ → Display → Option Kept
-kept_by_scroll n d =
-    if d.top == 0 && not d.is_alternate then with_left (first_rows (min n d.bottom) d) d.history else d.history
+unfoldable pub left_by_scroll : ℕ → Display → List (List Cell)
+left_by_scroll n d = if d.top == 0 && not d.is_alternate then first_rows (min n d.bottom) d else []
 
 -- SU, SD: what is within the margins scrolls
-abbrev pub scrolled_up : ℕ → Display → Display
-scrolled_up n d = rows_up n d.top d.bottom (record d { history = kept_by_scroll n d })
+abbrev pub scrolled_up : ℕ → Display → Step
+scrolled_up n d = record { display = rows_up n d.top d.bottom d; left = left_by_scroll n d }
 
 abbrev pub scrolled_down : ℕ → Display → Display
 scrolled_down n d = rows_down n d.top d.bottom d
@@ -119,8 +119,8 @@ unfoldable pub deleted_lines : ℕ → Display → Display
 deleted_lines n d = if is_in_margins d then to_column 0 (rows_up n d.cursor.row d.bottom d) else d
 
 -- IND: a row down; at the lower margin all scrolls up instead. RI: the same upwards.
-unfoldable pub index : Display → Display
-index d = if d.cursor.row + 1 == d.bottom then scrolled_up 1 d else to_row (d.cursor.row + 1) d
+unfoldable pub index : Display → Step
+index d = if d.cursor.row + 1 == d.bottom then scrolled_up 1 d else stays (to_row (d.cursor.row + 1)) d
 
 unfoldable pub reverse_index : Display → Display
 reverse_index d = if d.cursor.row == d.top then scrolled_down 1 d else to_row (d.cursor.row - 1) d
@@ -132,10 +132,6 @@ swapped d = record d { cells = d.hidden; hidden = d.cells }
 abbrev pub main_screen : Display → Display
 main_screen d = if d.is_alternate then swapped d else d
 
--- RIS: each display is a new one, but for what was shown of it and for what it keeps: all of the main screen is taken
--- away, also where it is hidden.
-abbrev pub renewed : Display → Display
-renewed d = record (fresh d.width d.height) {
-  shown = d.shown;
-  history = with_left (printed_rows (main_screen d)) d.history;
-}
+-- RIS: each display is a new one; all of the main screen is taken away, also where it is hidden.
+abbrev pub renewed : Display → Step
+renewed d = record { display = fresh d.width d.height; left = printed_rows (main_screen d) }

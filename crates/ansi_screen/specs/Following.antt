@@ -2,18 +2,19 @@
 use Rattle.std.specs.Prelude.{◌≡◌, ◌-◌, ℕ, List, take, drop}
 use Rattle.ansi_screen.specs.declared.cell.Cell.{Cell}
 use Rattle.ansi_screen.specs.Cells.{within}
-use Rattle.ansi_screen.specs.Display.{Display, picture, forgotten}
+use Rattle.ansi_screen.specs.Display.{Display, picture}
+use Rattle.ansi_screen.specs.State.{State, as_shown}
 
--- A display is, in cells and frame, what the other one was when its damage was last forgotten. The cursor, modes and
--- links may be others.
-pub record IsShownOf (other d : Display) : Type 0 where
-  pub width : d.width ≡ other.width
-  pub height : d.height ≡ other.height
-  pub picture : other.shown ≡ picture d
+-- A screen is, in cells and frame, what the other one was when its damage was last forgotten. The cursor, modes and
+-- links may be others, and what REP repeats.
+pub record IsShownOf (other s : State) : Type 0 where
+  pub width : s.display.width ≡ other.display.width
+  pub height : s.display.height ≡ other.display.height
+  pub picture : other.shown ≡ picture s.display
 
 -- It becomes as the other one is, and that is shown; what it keeps of rows that left, it keeps.
-abbrev pub following : (other d : Display) → Display
-following other d = record (forgotten other) { history = d.history }
+abbrev pub following : (other s : State) → State
+following other s = record (as_shown other) { history = s.history }
 
 -- Both have one size.
 pub record HasSizeOf (other d : Display) : Type 0 where

@@ -1,5 +1,6 @@
 -- The last rows that left a screen, of as many as it keeps.
-use Rattle.std.specs.Prelude.{ℕ, ◌+◌, ◌-◌, ◌^◌, min, Option, None, Some, List, [], ◌∷◌, ◌++◌, length, drop}
+use Rattle.std.specs.Prelude.{ℕ, ◌+◌, ◌-◌, ◌^◌, min, Option, List, [], ◌∷◌, ◌++◌, length, drop}
+use Rattle.std.specs.Option.{option_map}
 use Rattle.ansi_screen.specs.declared.cell.Cell.{Cell}
 
 -- How many rows are kept at most, and in how many columns; the rows, the oldest first; and how many have left in all.
@@ -35,5 +36,5 @@ kept_after_all (row ∷ rows) kept = kept_after_all rows (kept_after row kept)
 
 -- Rows leave a screen that keeps some, or none.
 abbrev pub with_left : List (List Cell) → Option Kept → Option Kept
-with_left rows None = None
-with_left rows (Some kept) = Some (kept_after_all rows kept)
+with_left [] history = history
+with_left (row ∷ rows) history = with_left rows (option_map (kept_after row) history)

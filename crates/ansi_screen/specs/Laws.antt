@@ -15,7 +15,7 @@ use Rattle.ansi_screen.specs.Display.{Display, Picture, blanks}
 use Rattle.ansi_screen.specs.Edits.{row_going_on}
 use Rattle.ansi_screen.specs.Widths.{is_shown, columns}
 use Rattle.ansi_screen.specs.Print.{wrapped}
-use Rattle.ansi_screen.specs.After.{State, function_of, displayed}
+use Rattle.ansi_screen.specs.After.{State, function_of, step_of}
 
 -- ESC c, ESC 7 and ESC 8: RIS, DECSC, DECRC
 abbrev pub reset : Call
@@ -29,7 +29,7 @@ restore = esc_dispatch [] false 0x38
 
 -- a screen of which something else was shown when its damage was last forgotten
 abbrev pub with_shown : Picture → State → State
-with_shown picture s = record s { display = record s.display { shown = picture } }
+with_shown picture s = record s { shown = picture }
 
 -- a control sequence that moves the cursor, or selects a style
 abbrev pub IsMoveOrStyle : Call → Type 0
@@ -61,8 +61,8 @@ before_scroll call d = d
 -- the display once a call has scrolled it: before the character that it prints is put, if it prints one
 abbrev pub once_scrolled : Call → State → Display
 once_scrolled (print c) s =
-    if is_shown c && not (columns c == 0) then wrapped (columns c) s.display else s.display
-once_scrolled call s = displayed call s
+    if is_shown c && not (columns c == 0) then (wrapped (columns c) s.display).display else s.display
+once_scrolled call s = (step_of call s.last s.display).display
 
 -- CR, LF, and EL as ESC [ K makes it
 abbrev pub carriage_return : Call

@@ -2,53 +2,40 @@
 --
 -- Where rows move up past the first row of the main screen, and where all of it is taken away, `Edits` says it: a screen
 -- keeps the last of them (`History`).
-use Rattle.std.specs.Prelude.{◌≡◌, ℕ, ◌+◌, Option, None, Some, List, [], ◌∷◌, ◌++◌}
+use Rattle.std.specs.Prelude.{◌≡◌, ℕ, Option, None, Some, List, [], ◌∷◌, ◌++◌}
 use Rattle.std.specs.Option.{option_map}
 use Rattle.anstyle_parse.specs.Stream.Call.{Call}
 use Rattle.anstyle_parse.specs.Stream.Calls.{AreCalls}
 use Rattle.ansi_screen.specs.declared.cell.Cell.{Cell}
 use Rattle.ansi_screen.specs.Display.{IsSized}
 use Rattle.ansi_screen.specs.History.{Kept, nothing_kept}
-use Rattle.ansi_screen.specs.After.{State, after, after_all}
+use Rattle.ansi_screen.specs.After.{State, step_of, after, after_all}
 
 -- the same screen, which keeps other rows that left it, or none
 abbrev pub with_kept : Option Kept → State → State
-with_kept history s = record s { display = record s.display { history = history } }
+with_kept history s = record s { history = history }
 
 -- the same screen, which keeps no rows that leave it
 abbrev pub unkept : State → State
-unkept s = record s { display = record s.display { history = None } }
-
--- the same, which has kept none yet, with room for all that can leave by one call
-abbrev pub keeping : State → State
-keeping s = record s {
-  display = record s.display {
-    history = Some (nothing_kept (s.display.height + s.display.bottom) s.display.width);
-  };
-}
+unkept s = record s { history = None }
 
 -- It keeps none, and has room for as many as it has rows.
 pub record HasRoom (s : State) : Type 0 where
   pub sized : IsSized s.display
-  pub room : s.display.history ≡ Some (nothing_kept s.display.height s.display.width)
+  pub room : s.history ≡ Some (nothing_kept s.display.height s.display.width)
 
 -- what it kept is kept no longer
 abbrev pub with_room_alone : State → State
-with_room_alone s = record s {
-  display = record s.display {
-    history =
-        option_map (λ (kept : Kept). nothing_kept kept.most kept.columns) s.display.history;
-  };
-}
+with_room_alone s = record s { history = option_map (λ (kept : Kept). nothing_kept kept.most kept.columns) s.history }
 
 -- what is kept; nothing by a screen that keeps nothing
 abbrev pub kept_rows : Option Kept → List (List Cell)
 kept_rows None = []
 kept_rows (Some kept) = kept.rows
 
--- the rows that leave by a call, those that such a screen then keeps; and by a list of calls, in order
+-- the rows that leave by a call, and by a list of calls, in order
 abbrev pub rows_left : Call → State → List (List Cell)
-rows_left call s = kept_rows (after call (keeping s)).display.history
+rows_left call s = (step_of call s.last s.display).left
 
 abbrev pub all_left : List Call → State → List (List Cell)
 all_left [] s = []

@@ -1,5 +1,6 @@
 pub mod Cells
 pub mod Display
+pub mod State
 pub mod Damage
 pub mod Following
 pub mod Moves

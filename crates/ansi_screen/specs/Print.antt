@@ -12,6 +12,7 @@ use Rattle.ansi_screen.specs.declared.cell.Part.TheVariants.{Whole, Left, Right}
 use Rattle.ansi_screen.specs.declared.place.Charsets.{Charsets}
 use Rattle.ansi_screen.specs.Cells.{printed_cell, change, marked_before}
 use Rattle.ansi_screen.specs.Display.{Display, here}
+use Rattle.ansi_screen.specs.State.{Step, stays, unchanged, and_then}
 use Rattle.ansi_screen.specs.Moves.{to_column, settled}
 use Rattle.ansi_screen.specs.Edits.{with_cells, row_goes_on, row_going_on, index, inserted_characters}
 use Rattle.ansi_screen.specs.Widths.{is_shown, columns}
@@ -24,11 +25,11 @@ glyph n c style link =
 
 -- Where the row has no room for so many columns: with autowrap the cursor goes to the start of
 -- the next row, in which this row goes on, and else to the last column.
-unfoldable pub wrapped : ℕ → Display → Display
+unfoldable pub wrapped : ℕ → Display → Step
 wrapped n d =
     if nat_lt d.width (d.cursor.column + n)
-    then (if d.wraps then index (to_column 0 (row_going_on true d)) else settled d)
-    else d
+    then (if d.wraps then index (to_column 0 (row_going_on true d)) else stays settled d)
+    else unchanged d
 
 -- in insert mode the rest of the row makes room
 unfoldable pub with_room : ℕ → Display → Display
@@ -53,10 +54,10 @@ put n c d = if nat_lt d.width (d.cursor.column + n) then d else with_glyph n c (
 unfoldable pub marked : ℕ → Display → Display
 marked c d = if d.cursor.column == 0 then d else with_cells (marked_before c (here d) d.cells) d
 
-unfoldable pub shown : ℕ → Display → Display
+unfoldable pub shown : ℕ → Display → Step
 shown c d =
-    if columns c == 0 then marked c d
-    else put (columns c) c (wrapped (columns c) d)
+    if columns c == 0 then stays (marked c) d
+    else and_then (put (columns c) c) (wrapped (columns c) d)
 
 -- the line drawing set: what stands for 5F to 7E
 abbrev pub line_drawing : List ℕ
@@ -74,9 +75,9 @@ abbrev pub draws : Charsets → Bool
 draws sets = if sets.uses_g1 then sets.g1_draws else sets.g0_draws
 
 -- A character of the stream. What has no glyph, as DEL, shows nothing.
-unfoldable pub printed : ℕ → Display → Display
-printed c d = if is_shown c then shown (if draws d.cursor.charsets then drawn c else c) d else d
+unfoldable pub printed : ℕ → Display → Step
+printed c d = if is_shown c then shown (if draws d.cursor.charsets then drawn c else c) d else unchanged d
 
--- each step of REP: the character again, where the row has room for it
+-- each step of REP: the character again, where the row has room for it, so that no row leaves
 unfoldable pub printed_again : ℕ → Display → Display
-printed_again c d = if nat_le (d.cursor.column + columns c) d.width then printed c d else d
+printed_again c d = if nat_le (d.cursor.column + columns c) d.width then (printed c d).display else d

@@ -31,10 +31,10 @@ with_run text d = record d {
   cursor = record d.cursor { column = d.cursor.column + length text };
 }
 
--- the display after characters that are printed one after another
+-- the display after characters that are printed one after another, for which its row has room
 abbrev pub printed_all : List ℕ → Display → Display
 printed_all [] d = d
-printed_all (c ∷ text) d = printed_all text (printed c d)
+printed_all (c ∷ text) d = printed_all text (printed c d).display
 
 -- The row has room for so many columns, no cell moves for a character, and no line is drawn in its place.
 pub record HasRoom (n : ℕ) (d : Display) : Type 0 where

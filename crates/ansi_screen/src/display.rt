@@ -52,32 +52,39 @@ pub(crate) struct Display {
     shown: Shown,
     /// The last rows that left it, if it keeps any.
     history: Option<History>,
+    /// The character of the call just before, where that printed one: REP repeats it if it takes columns.
+    printed: Option<char>,
 }
 
 impl Model for Display {
     ghost use Rattle.std.specs.Prelude.{◌≡◌};
-    ghost use Rattle.ansi_screen.specs.Display.{Display};
-    ghost use Rattle.ansi_screen.specs.Damage.{IsDisplay};
+    ghost use Rattle.std.specs.Option.{option_and_then};
+    ghost use Rattle.ansi_screen.specs.State.{State};
+    ghost use Rattle.ansi_screen.specs.After.{repeatable};
+    ghost use Rattle.ansi_screen.specs.Damage.{IsNoted};
 
-    ghost Value = { Display };
+    ghost Value = { State };
 
     ghost view = { λ s. record {
-      width = s.cells.width;
-      height = s.cells.height;
-      cells = s.cells.cells;
-      cursor = s.cursor;
-      saved = s.saved;
-      top = s.top;
-      bottom = s.bottom;
-      tabs = s.tabs.items;
-      wraps = s.wraps;
-      inserts = s.inserts;
-      is_visible = s.is_visible;
-      links = s.links;
-      link = s.link;
-      is_alternate = s.is_alternate;
-      hidden = s.hidden.cells;
-      hidden_saved = s.hidden_saved;
+      display = record {
+        width = s.cells.width;
+        height = s.cells.height;
+        cells = s.cells.cells;
+        cursor = s.cursor;
+        saved = s.saved;
+        top = s.top;
+        bottom = s.bottom;
+        tabs = s.tabs.items;
+        wraps = s.wraps;
+        inserts = s.inserts;
+        is_visible = s.is_visible;
+        links = s.links;
+        link = s.link;
+        is_alternate = s.is_alternate;
+        hidden = s.hidden.cells;
+        hidden_saved = s.hidden_saved;
+      };
+      last = option_and_then repeatable s.printed;
       shown = record {
         cells = s.shown.cells.value.cells;
         frame = record {
@@ -94,23 +101,26 @@ impl Model for Display {
     } };
 
     ghost invariant = { λ s. (s.hidden.width ≡ s.cells.width) × (s.hidden.height ≡ s.cells.height)
-        × IsDisplay s.damage (record {
-          width = s.cells.width;
-          height = s.cells.height;
-          cells = s.cells.cells;
-          cursor = s.cursor;
-          saved = s.saved;
-          top = s.top;
-          bottom = s.bottom;
-          tabs = s.tabs.items;
-          wraps = s.wraps;
-          inserts = s.inserts;
-          is_visible = s.is_visible;
-          links = s.links;
-          link = s.link;
-          is_alternate = s.is_alternate;
-          hidden = s.hidden.cells;
-          hidden_saved = s.hidden_saved;
+        × IsNoted s.damage (record {
+          display = record {
+            width = s.cells.width;
+            height = s.cells.height;
+            cells = s.cells.cells;
+            cursor = s.cursor;
+            saved = s.saved;
+            top = s.top;
+            bottom = s.bottom;
+            tabs = s.tabs.items;
+            wraps = s.wraps;
+            inserts = s.inserts;
+            is_visible = s.is_visible;
+            links = s.links;
+            link = s.link;
+            is_alternate = s.is_alternate;
+            hidden = s.hidden.cells;
+            hidden_saved = s.hidden_saved;
+          };
+          last = option_and_then repeatable s.printed;
           shown = record {
             cells = s.shown.cells.value.cells;
             frame = record {
@@ -130,7 +140,8 @@ impl Model for Display {
 impl Display {
     ghost use Rattle.std.specs.Prelude.{Some};
     ghost use Rattle.std.specs.Option.{option_map};
-    ghost use Rattle.ansi_screen.specs.Display.{fresh, forgotten, IsSized, row_cells};
+    ghost use Rattle.ansi_screen.specs.Display.{IsSized, row_cells};
+    ghost use Rattle.ansi_screen.specs.State.{new_state, as_shown};
     ghost use Rattle.ansi_screen.specs.History.{nothing_kept};
     ghost use Rattle.ansi_screen.specs.Damage.{HasHistory};
     ghost use Rattle.ansi_screen.specs.Grid.{IsBlankFrom};
@@ -142,7 +153,7 @@ impl Display {
         requires max_columns { columns ≤ MAX_COLUMNS }
         requires min_rows { MIN_ROWS ≤ rows }
         requires max_rows { rows ≤ MAX_ROWS }
-        ensures { IfOk result (λ display. display ≡ fresh columns rows) }
+        ensures { IfOk result (λ display. display ≡ new_state columns rows) }
     {
         let cells = Grid::new(alloc, columns, rows as u16)?;
         let hidden = Covered::new(alloc, columns, rows as u16)?;
@@ -171,6 +182,7 @@ impl Display {
             damage,
             shown,
             history: None,
+            printed: None,
         })
     }
 
@@ -186,7 +198,7 @@ impl Display {
         requires min_rows { MIN_ROWS ≤ rows }
         requires max_rows { rows ≤ MAX_ROWS }
         ensures { IfOk result (λ display.
-            display ≡ record (fresh columns rows) { history = Some (nothing_kept most columns) }) }
+            display ≡ record (new_state columns rows) { history = Some (nothing_kept most columns) }) }
     {
         let history = History::new(alloc, most, columns)?;
         let mut display = Display::new(alloc, columns, rows)?;
@@ -198,7 +210,7 @@ impl Display {
 
     /// Another one that shows and keeps the same. `Err` means that memory is wanting.
     pub(crate) fn copy(&self, alloc: Global) -> Result<Display, AllocError>
-        ensures { IfOk result (λ copy. copy ≡ forgotten self.now) }
+        ensures { IfOk result (λ copy. copy ≡ as_shown self.now) }
     {
         let (columns, rows) = (self.columns(), self.rows());
         let mut copy = Display::new(alloc, columns, rows)?;
@@ -230,10 +242,10 @@ impl Display {
 
     /// What it keeps of the rows that left, and what is handed to it, of its width too, change places.
     pub(crate) fn swap_history(&mut self, history: &mut Option<History>)
-        requires { HasHistory self.old.width history.old }
+        requires { HasHistory self.old.display.width history.old }
         ensures kept { self.new ≡ record self.old { history = history.old } }
         ensures taken { history.new ≡ self.old.history }
-        ensures columns { HasHistory self.old.width history.new }
+        ensures columns { HasHistory self.old.display.width history.new }
     {
         mem::swap(&mut self.history, history);
     }
@@ -242,7 +254,7 @@ impl Display {
     /// that memory is wanting; then it is as it was.
     pub(crate) fn keep(&mut self, alloc: Global, most: usize) -> Result<(), AllocError>
         ensures kept { IfOk result (λ _.
-            self.new ≡ record self.old { history = Some (nothing_kept most self.old.width) }) }
+            self.new ≡ record self.old { history = Some (nothing_kept most self.old.display.width) }) }
         ensures stays { IfErr result (λ _. self.new ≡ self.old) }
     {
         let columns = self.columns();
@@ -252,48 +264,48 @@ impl Display {
 
     /// How many columns it has.
     pub(crate) fn columns(&self) -> usize
-        ensures columns { result ≡ self.now.width }
-        ensures sized { IsSized self.now }
+        ensures columns { result ≡ self.now.display.width }
+        ensures sized { IsSized self.now.display }
     {
         self.cells.width()
     }
 
     /// How many rows it has.
     pub(crate) fn rows(&self) -> usize
-        ensures rows { result ≡ self.now.height }
-        ensures sized { IsSized self.now }
+        ensures rows { result ≡ self.now.display.height }
+        ensures sized { IsSized self.now.display }
     {
         self.cells.height()
     }
 
     /// The cells of a row, counted from 0.
     pub(crate) fn row(&self, row: usize) -> &[Cell]
-        requires { row < self.now.height }
-        ensures cells { result.now ≡ row_cells row self.now }
-        ensures columns { length result.now ≡ self.now.width }
+        requires { row < self.now.display.height }
+        ensures cells { result.now ≡ row_cells row self.now.display }
+        ensures columns { length result.now ≡ self.now.display.width }
     {
         self.cells.row(row)
     }
 
     /// From which column on all cells of a row are plain blanks.
     pub(crate) fn written(&self, row: usize) -> usize
-        requires { row < self.now.height }
-        ensures within { result ≤ self.now.width }
-        ensures rest { IsBlankFrom result (row_cells row self.now) }
+        requires { row < self.now.display.height }
+        ensures within { result ≤ self.now.display.width }
+        ensures rest { IsBlankFrom result (row_cells row self.now.display) }
     {
         self.cells.written(row)
     }
 
     /// Where the cursor is, with the style of what comes next.
     pub(crate) fn cursor(&self) -> Place
-        ensures { result ≡ self.now.cursor }
+        ensures { result ≡ self.now.display.cursor }
     {
         self.cursor
     }
 
     /// Whether the cursor is shown.
     pub(crate) fn is_visible(&self) -> bool
-        ensures { result ≡ self.now.is_visible }
+        ensures { result ≡ self.now.display.is_visible }
     {
         self.is_visible
     }

@@ -597,6 +597,7 @@ impl Grid {
     }
 
     /// The first `count` rows leave, and are kept if any are; blank ones take their places.
+    #[tactic(auto, using(crate::proofs::LeftLemmas::left_none, crate::proofs::LeftLemmas::left_some))]
     pub(crate) fn leave(&mut self, count: usize, style: Style, history: &mut Option<History>)
         requires within { count ≤ self.old.height }
         requires columns { HasHistory self.old.width history.old }
@@ -612,6 +613,7 @@ impl Grid {
 
     /// The first rows up to `last` move up by as many as `count`, and those that leave at the top are kept if any are;
     /// blank ones follow.
+    #[tactic(auto, using(crate::proofs::LeftLemmas::left_none, crate::proofs::LeftLemmas::left_some))]
     pub(crate) fn scroll_out(
         &mut self,
         last: usize,

@@ -5,7 +5,8 @@ ghost use Rattle.anstyle_parse.specs.Stream.Call.{Call};
 ghost use Rattle.ansi_screen.specs.Display.{Picture, most_columns, most_rows};
 ghost use Rattle.ansi_screen.specs.Edits.{renewed, rows_up};
 ghost use Rattle.ansi_screen.specs.Reachable.{IsScreen, HasContents};
-ghost use Rattle.ansi_screen.specs.After.{State, new_state, after, after_all, Shows};
+ghost use Rattle.ansi_screen.specs.State.{State, new_state, stepped};
+ghost use Rattle.ansi_screen.specs.After.{after, after_all, Shows};
 ghost use Rattle.ansi_screen.specs.Leaving.{ScrollsBy, unkept, rows_left};
 ghost use Rattle.ansi_screen.specs.Text.{first_rows};
 ghost use Rattle.ansi_screen.specs.Laws.{with_shown, KeepsRows, before_scroll, once_scrolled, reset, save, restore, IsMoveOrStyle, carriage_return, erase_rest, printing, typing, lines_text, FitsIn, page, text_columns};
@@ -56,15 +57,16 @@ pub fn determined()
 /// ESC c makes every screen a new one of its size; so after it, nothing counts that came before, but for rows that
 /// left and are kept.
 pub fn reset()
-    ensures new { (screen : State) → (after reset screen).display ≡ renewed screen.display }
+    ensures new { (screen : State) → after reset screen ≡ record (stepped renewed screen) { last = None } }
     ensures last { (screen : State) → (after reset screen).last ≡ None }
     ensures forgets { (a b : State) (calls : List Call)
         → a.display.width ≡ b.display.width → a.display.height ≡ b.display.height
-        → with_shown b.display.shown (unkept (after_all (reset ∷ calls) a)) ≡ unkept (after_all (reset ∷ calls) b) }
+        → with_shown b.shown (unkept (after_all (reset ∷ calls) a)) ≡ unkept (after_all (reset ∷ calls) b) }
 {}
 
 /// What was shown of a screen when its damage was last forgotten decides nothing, and no call changes it; and what is
-/// kept of rows that left decides nothing.
+/// kept of rows that left decides nothing. The definition says it: a call makes a step of the display and of what REP
+/// repeats, and of nothing else (`step_of`).
 pub fn unread()
     ensures shown { (screen : State) (picture : Picture) (calls : List Call)
         → after_all calls (with_shown picture screen) ≡ with_shown picture (after_all calls screen) }
@@ -76,8 +78,10 @@ pub fn unread()
 pub fn enclosed()
     ensures { (screen : State) (calls : List Call) → AllByRecursion IsMoveOrStyle calls
         → screen.display.cursor.is_relative ≡ false
-        → (after_all (save ∷ (calls ++ restore ∷ [])) screen).display
-        ≡ record screen.display { saved = screen.display.cursor } }
+        → after_all (save ∷ (calls ++ restore ∷ [])) screen ≡ record screen {
+          display = record screen.display { saved = screen.display.cursor };
+          last = None;
+        } }
 {}
 
 /// Plain text comes through: lines of characters of one column each, no longer than the rows of a new

@@ -240,7 +240,7 @@ fn hand_on_left<R: TakeRow>(history: &History, taker: &mut R)
 #[inline]
 fn take_left<R: TakeRow>(screen: &mut Screen, taker: &mut R)
     ensures screen { screen.new ≡ with_room_alone screen.old }
-    ensures taken { TakesRows R.takes taker.old (kept_rows screen.old.display.history) taker.new }
+    ensures taken { TakesRows R.takes taker.old (kept_rows screen.old.history) taker.new }
     ensures sized { IsSized screen.new.display }
 {
     if let Some(history) = screen.history()

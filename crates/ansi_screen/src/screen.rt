@@ -1,6 +1,6 @@
 //! A screen as a performer.
-ghost use Rattle.std.specs.Prelude.{◌≡◌, ◌<◌, ◌≤◌, ◌⊎◌, ℕ, None, [], false, length, take, IfOk, IfErr};
-ghost use Rattle.ansi_screen.specs.After.{repeatable, is_repeat};
+ghost use Rattle.std.specs.Prelude.{◌≡◌, ◌<◌, ◌≤◌, ◌⊎◌, ℕ, [], false, length, take, IfOk, IfErr};
+ghost use Rattle.ansi_screen.specs.After.{is_repeat};
 
 use crate::cell::Cell;
 use crate::display::{Display, first_of};
@@ -8,7 +8,6 @@ use crate::history::History;
 use crate::place::Place;
 use crate::size::{MAX_COLUMNS, MAX_ROWS, MIN_COLUMNS, MIN_ROWS};
 use crate::texts::{PutRuns, print_by_runs};
-use crate::width::{columns, is_shown};
 use anstyle_parse::{Params, Perform, PerformText};
 use std::alloc::{AllocError, Global};
 use std::marker::Model;
@@ -20,32 +19,14 @@ use std::marker::Model;
 #[derive(Drop)]
 pub struct Screen {
     display: Display,
-    /// The character of the call just before, where that printed one: REP repeats it if it takes columns.
-    printed: Option<char>,
 }
 
 impl Model for Screen {
-    ghost use Rattle.std.specs.Option.{option_and_then};
-    ghost use Rattle.ansi_screen.specs.After.{State, repeatable};
+    ghost use Rattle.ansi_screen.specs.State.{State};
 
     ghost Value = { State };
 
-    ghost view = { λ s. record {
-      display = s.display;
-      last = option_and_then repeatable s.printed;
-    } };
-}
-
-/// What REP repeats after a character.
-#[tactic(auto, unfolding(crate::specs::After::repeatable))]
-fn repeatable(c: char) -> Option<char>
-    ensures { result ≡ repeatable c }
-{
-    if is_shown(c) && columns(c) != 0 {
-        Some(c)
-    } else {
-        None
-    }
+    ghost view = { λ s. s.display };
 }
 
 /// Whether a control sequence is REP.
@@ -57,10 +38,11 @@ fn is_repeat(intermediates: &[u8], final_byte: u8) -> bool
 }
 
 impl Screen {
-    ghost use Rattle.ansi_screen.specs.Display.{fresh, IsSized, row_cells, shown_cells, picture};
+    ghost use Rattle.ansi_screen.specs.Display.{IsSized, row_cells, picture};
+    ghost use Rattle.ansi_screen.specs.State.{new_state, as_shown, shown_cells, changed};
     ghost use Rattle.ansi_screen.specs.Grid.{IsBlankFrom};
     ghost use Rattle.anstyle_parse.specs.Stream.Items.{EachIs};
-    ghost use Rattle.ansi_screen.specs.After.{new_state, as_shown, after_all};
+    ghost use Rattle.ansi_screen.specs.After.{after_all};
     ghost use Rattle.ansi_screen.specs.Runs.{is_printed_ascii};
     ghost use Rattle.ansi_screen.specs.Laws.{printing};
     ghost use Rattle.std.specs.Prelude.{Some};
@@ -81,10 +63,7 @@ impl Screen {
         ensures { IfOk result (λ screen. screen ≡ new_state columns rows) }
     {
         let display = Display::new(alloc, columns, rows)?;
-        Ok(Screen {
-            display,
-            printed: None,
-        })
+        Ok(Screen { display })
     }
 
     /// The same, which keeps the last `most` of the rows that leave it.
@@ -98,16 +77,11 @@ impl Screen {
         requires max_columns { columns ≤ MAX_COLUMNS }
         requires min_rows { MIN_ROWS ≤ rows }
         requires max_rows { rows ≤ MAX_ROWS }
-        ensures { IfOk result (λ screen. screen ≡ record {
-          display = record (fresh columns rows) { history = Some (nothing_kept most columns) };
-          last = None;
-        }) }
+        ensures { IfOk result (λ screen.
+            screen ≡ record (new_state columns rows) { history = Some (nothing_kept most columns) }) }
     {
         let display = Display::with_history(alloc, columns, rows, most)?;
-        Ok(Screen {
-            display,
-            printed: None,
-        })
+        Ok(Screen { display })
     }
 
     /// Another one that shows and keeps the same; what it notes is what changes from now on. `Err` means that memory is
@@ -117,14 +91,13 @@ impl Screen {
     {
         Ok(Screen {
             display: self.display.copy(alloc)?,
-            printed: self.printed,
         })
     }
 
     /// The last rows that left it, if it keeps any.
     #[inline]
     pub fn history(&self) -> Option<&History>
-        ensures { option_map (λ history. history.now) result ≡ self.now.display.history }
+        ensures { option_map (λ history. history.now) result ≡ self.now.history }
     {
         self.display.history()
     }
@@ -141,7 +114,7 @@ impl Screen {
     pub fn swap_history(&mut self, history: &mut Option<History>)
         requires { HasHistory self.old.display.width history.old }
         ensures kept { self.new ≡ with_kept history.old self.old }
-        ensures taken { history.new ≡ self.old.display.history }
+        ensures taken { history.new ≡ self.old.history }
         ensures columns { HasHistory self.old.display.width history.new }
     {
         self.display.swap_history(history);
@@ -150,9 +123,8 @@ impl Screen {
     /// It keeps the last `most` of the rows that leave it from now on, and those no longer that it kept. `Err` means
     /// that memory is wanting; then it is as it was.
     pub(crate) fn keep(&mut self, alloc: Global, most: usize) -> Result<(), AllocError>
-        ensures kept { IfOk result (λ _. self.new ≡ record self.old {
-          display = record self.old.display { history = Some (nothing_kept most self.old.display.width) };
-        }) }
+        ensures kept { IfOk result (λ _.
+            self.new ≡ record self.old { history = Some (nothing_kept most self.old.display.width) }) }
         ensures stays { IfErr result (λ _. self.new ≡ self.old) }
     {
         self.display.keep(alloc, most)
@@ -229,7 +201,7 @@ impl Screen {
         ensures order { result.0 ≤ result.1 }
         ensures within { result.1 ≤ self.now.display.height }
         ensures kept { (row : ℕ) → row < self.now.display.height → (row < result.0) ⊎ (result.1 ≤ row)
-            → row_cells row self.now.display ≡ shown_cells row self.now.display }
+            → row_cells row self.now.display ≡ shown_cells row self.now }
     {
         self.display.changed_rows()
     }
@@ -240,7 +212,7 @@ impl Screen {
         requires { row < self.now.display.height }
         ensures order { result.0 ≤ result.1 }
         ensures within { result.1 ≤ self.now.display.width }
-        ensures kept { KeepsColumns result.0 result.1 (shown_cells row self.now.display)
+        ensures kept { KeepsColumns result.0 result.1 (shown_cells row self.now)
             (row_cells row self.now.display) }
     {
         self.display.changed(row)
@@ -248,7 +220,7 @@ impl Screen {
 
     /// Whether margins, tabs, what is saved or the alternate screen with what it covers can have changed.
     pub fn is_framed(&self) -> bool
-        ensures { result ≡ false → (picture self.now.display).frame ≡ self.now.display.shown.frame }
+        ensures { result ≡ false → (picture self.now.display).frame ≡ self.now.shown.frame }
     {
         self.display.is_framed()
     }
@@ -257,31 +229,23 @@ impl Screen {
     /// modes and links. Nothing else is copied, what it keeps of rows that left neither, and no memory is taken. (That
     /// no more is copied `tests/cells` holds, by what it costs.)
     pub fn catch_up(&mut self, other: &Screen)
-        requires { IsShownOf other.now.display self.old.display }
-        ensures { self.new ≡ record {
-          display = following other.now.display self.old.display;
-          last = other.now.last;
-        } }
+        requires { IsShownOf other.now self.old }
+        ensures { self.new ≡ following other.now self.old }
     {
         self.display.catch_up(other.display());
-        self.printed = other.printed;
     }
 
     /// Becomes as another screen of its size is, but for what it keeps of rows that left. No memory is taken.
     pub fn copy_from(&mut self, other: &Screen)
         requires { HasSizeOf other.now.display self.old.display }
-        ensures { self.new ≡ record {
-          display = following other.now.display self.old.display;
-          last = other.now.last;
-        } }
+        ensures { self.new ≡ following other.now self.old }
     {
         self.display.copy_from(other.display());
-        self.printed = other.printed;
     }
 
     /// The cells of the main and of the alternate screen change places; all else stays.
     pub(crate) fn swap_screens(&mut self)
-        ensures { self.new ≡ record self.old { display = swapped self.old.display } }
+        ensures { self.new ≡ changed swapped self.old }
     {
         self.display.swap_screens();
     }
@@ -298,21 +262,14 @@ impl Screen {
         let count = self.display.room().min(run.len());
         if count > 0 {
             self.display.put_run(&run[..count]);
-            self.printed = Some(char::from(run[count - 1]));
+            self.display.set_printed(Some(char::from(run[count - 1])));
         }
         count
     }
 
-    /// What REP repeats.
-    fn last(&self) -> Option<char>
-        ensures { result ≡ self.now.last }
-    {
-        self.printed.and_then(repeatable)
-    }
-
     /// What it shows.
     pub(crate) fn display(&self) -> &Display
-        ensures { result.now ≡ self.now.display }
+        ensures { result.now ≡ self.now }
     {
         &self.display
     }
@@ -326,47 +283,46 @@ impl Perform for Screen {
 
     fn print(&mut self, c: char) {
         self.display.print(c);
-        self.printed = Some(c);
+        self.display.set_printed(Some(c));
     }
 
     fn execute(&mut self, byte: u8) {
         self.display.execute(byte);
-        self.printed = None;
+        self.display.set_printed(None);
     }
 
     fn hook(&mut self, _params: &Params, _intermediates: &[u8], _ignore: bool, _action: u8) {
-        self.printed = None;
+        self.display.set_printed(None);
     }
 
     fn put(&mut self, _byte: u8) {
-        self.printed = None;
+        self.display.set_printed(None);
     }
 
     fn unhook(&mut self) {
-        self.printed = None;
+        self.display.set_printed(None);
     }
 
     fn osc_dispatch(&mut self, params: &[&[u8]], _bell_terminated: bool) {
         self.display.command(params);
-        self.printed = None;
+        self.display.set_printed(None);
     }
 
     fn csi_dispatch(&mut self, params: &Params, intermediates: &[u8], ignore: bool, action: u8) {
         if !ignore && is_repeat(intermediates, action) {
             let count = first_of(params).max(1);
-            let last = self.last();
-            self.display.repeat(count, last);
+            self.display.repeat(count);
         } else if !ignore {
             self.display.sequence(params, intermediates, action);
         }
-        self.printed = None;
+        self.display.set_printed(None);
     }
 
     fn esc_dispatch(&mut self, intermediates: &[u8], ignore: bool, byte: u8) {
         if !ignore {
             self.display.designate(intermediates, byte);
         }
-        self.printed = None;
+        self.display.set_printed(None);
     }
 }
 

@@ -277,8 +277,8 @@ fn put_row<W: Sink>(output: &mut Output<W>, cells: &[Cell])
 impl Display {
     /// How many rows come up to the last that has a cell which is not left out.
     pub(crate) fn used_rows(&self, ends: LeftOut) -> usize
-        ensures used { result ≡ used_rows (left_out ends) self.now.height self.now }
-        ensures within { result ≤ self.now.height }
+        ensures used { result ≡ used_rows (left_out ends) self.now.display.height self.now.display }
+        ensures within { result ≤ self.now.display.height }
     {
         let mut end = 0;
         for row in 0..self.rows() {
@@ -291,7 +291,7 @@ impl Display {
 
     /// Writes its rows that are used.
     fn write_rows<W: Sink>(&self, output: &mut Output<W>)
-        ensures { Adds W.Sink (text_of self.now) output.old output.new }
+        ensures { Adds W.Sink (text_of self.now.display) output.old output.new }
     {
         let end = self.used_rows(LeftOut::Blanks);
         for row in 0..end {

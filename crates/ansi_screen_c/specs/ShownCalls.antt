@@ -1,16 +1,28 @@
 -- What the calls from C do with a log that is shown.
-use Rattle.std.specs.Prelude.{◌≡◌, ⊤, ℕ, List, [], Option, None, Some}
+use Rattle.std.specs.Prelude.{◌≡◌, ◌==◌, not, ⊤, ℕ, List, [], Option, None, Some}
+use Rattle.ansi_screen_c.specs.declared.shown.ShownOptions.{ShownOptions}
 use Rattle.anstyle_parse.specs.declared.io.devices.Sink.{Ghosts as SinkOf}
+use Rattle.shown_pieces.specs.declared.how.How.{How}
 use Rattle.shown_pieces.specs.declared.log.ShownLog.{ShownLog}
-use Rattle.shown_pieces.specs.Log.{size_of, form_of, text_of, HasCome, HasText, LacksRoom}
-use Rattle.shown_pieces.specs.Numbers.{size_numbered, form_numbered}
+use Rattle.shown_pieces.specs.Log.{size_of, how_of, text_of, HasCome, HasText, LacksRoom}
+use Rattle.shown_pieces.specs.Numbers.{screen_numbered, form_numbered}
 use Rattle.shown_pieces.specs.Running.{Memory}
 
--- A log is held, of which nothing has come, and its screen and its form are those of these numbers.
-abbrev pub IsOpened : SinkOf Memory → (columns rows form styling : ℕ) → Option ShownLog → Type 0
-IsOpened sink columns rows form styling None = ⊥
-IsOpened sink columns rows form styling (Some log) =
-    (Some (size_of log) ≡ size_numbered columns rows) × (form_of log ≡ form_numbered form styling) × HasCome sink [] log
+-- how a log is written by options: a number that is not 0 asks for what it names
+abbrev pub how_asked : ShownOptions → How
+how_asked options = record {
+  form = form_numbered options.form options.styling;
+  has_lines = not (options.lines == 0);
+  has_urls = not (options.urls == 0);
+  no_hidden = not (options.no_hidden == 0);
+}
+
+-- A log is held, of which nothing has come, and its screen, and how it is written, are those of the options.
+abbrev pub IsOpened : SinkOf Memory → ShownOptions → Option ShownLog → Type 0
+IsOpened sink options None = ⊥
+IsOpened sink options (Some log) =
+    (Some (size_of log) ≡ screen_numbered options.no_screen options.columns options.rows)
+    × (how_of log ≡ how_asked options) × HasCome sink [] log
 
 -- A log was held, and one is held now: they are related so.
 abbrev pub BothLogs : (ShownLog → ShownLog → Type 0) → Option ShownLog → Option ShownLog → Type 0

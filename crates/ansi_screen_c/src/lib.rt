@@ -8,6 +8,7 @@ mod changes;
 mod drawing;
 mod handle;
 mod history;
+mod lines;
 mod loose;
 mod page;
 mod parts;

@@ -8,13 +8,13 @@ ghost use Rattle.ansi_screen_c.specs.ShownCalls.{IsOpened, BothLogs, BothOrNone,
 use crate::shown_handle::ShownHandle;
 use crate::told;
 use anstyle_parse::io::Sink;
-use shown_pieces::{Memory, ShownLog, form_at, size_at};
+use shown_pieces::{How, Memory, ShownLog, form_at, screen_at};
 use std::alloc::Global;
 
 /// How many bytes of options are kept for later: they are 0.
-pub const RESERVED_SHOWN: usize = 6;
+pub const RESERVED_SHOWN: usize = 2;
 
-/// How is written what a screen showed, and by which screen.
+/// How a log is written, and by which screen. A number that is not 0 asks for what it names.
 #[repr(C)]
 #[derive(Clone, Copy)]
 pub struct ShownOptions {
@@ -24,25 +24,35 @@ pub struct ShownOptions {
     /// The number of a form, and of a styling.
     pub form: u8,
     pub styling: u8,
+    /// Of HTML: lines that can be linked to; addresses as links.
+    pub lines: u8,
+    pub urls: u8,
+    /// Hidden text is left out.
+    pub no_hidden: u8,
+    /// The log itself is written, and no screen shows it.
+    pub no_screen: u8,
     pub reserved: [u8; RESERVED_SHOWN],
 }
 
 /// A new log, of which nothing has come, by these options.
 fn log_by(alloc: Global, options: &ShownOptions) -> Option<ShownLog>
-    ensures { IfSome result (λ log. IsOpened ⟦<Memory as Sink>⟧ options.now.columns options.now.rows options.now.form
-        options.now.styling (Some log)) }
+    ensures { IfSome result (λ log. IsOpened ⟦<Memory as Sink>⟧ options.now (Some log)) }
 {
-    let Some(size) = size_at(options.columns, options.rows) else {
+    let Some(size) = screen_at(options.no_screen, options.columns, options.rows) else {
         return None;
     };
-    let form = form_at(options.form, options.styling);
-    Some(ShownLog::new(alloc, size, form))
+    let how = How {
+        form: form_at(options.form, options.styling),
+        has_lines: options.lines != 0,
+        has_urls: options.urls != 0,
+        no_hidden: options.no_hidden != 0,
+    };
+    Some(ShownLog::new(alloc, size, how))
 }
 
 /// One on the heap.
 fn boxed(alloc: Global, options: &ShownOptions) -> Option<Box<ShownLog>>
-    ensures { IfSome result (λ held. IsOpened ⟦<Memory as Sink>⟧ options.now.columns options.now.rows options.now.form
-        options.now.styling (Some held.value)) }
+    ensures { IfSome result (λ held. IsOpened ⟦<Memory as Sink>⟧ options.now (Some held.value)) }
 {
     let Some(log) = log_by(alloc, options) else {
         return None;
@@ -61,8 +71,7 @@ pub extern "C" fn ansi_shown_open(
     shown: &mut ShownHandle,
     options: &ShownOptions,
 ) -> bool
-    ensures opened { OnTrue result (IsOpened ⟦<Memory as Sink>⟧ options.now.columns options.now.rows options.now.form
-        options.now.styling shown.new.value) }
+    ensures opened { OnTrue result (IsOpened ⟦<Memory as Sink>⟧ options.now shown.new.value) }
     ensures none { OnFalse result (shown.new.value ≡ None) }
 {
     drop(shown.take(alloc));

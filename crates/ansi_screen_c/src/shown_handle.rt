@@ -1,5 +1,7 @@
 //! A log that is shown, on the heap, by a pointer that may be null.
 ghost use Rattle.std.specs.Prelude.{◌≡◌, Option, None, Some, option_map};
+ghost use Rattle.std.specs.Coded.{codes};
+ghost use Rattle.std.proofs.Props.{props};
 ghost use Rattle.shown_pieces.specs.declared.log.ShownLog.{ShownLog as Inside};
 ghost use Rattle.ansi_screen_c.specs.ShownHandle.{owned};
 
@@ -16,7 +18,7 @@ use std::ptr::null_mut;
 pub struct ShownHandle {
     at: *mut u8,
     alloc: Global,
-    pub ghost value: { Option Inside },
+    pub ghost value: { Option Inside } by { Prim.hlevel (codes, props) },
 }
 
 impl Model for ShownHandle {

@@ -1,11 +1,10 @@
 -- It goes by calls to what the definition says of them.
-use Rattle.std.proofs.Common.{◌≡◌, Bool, List, [], ◌∷◌, refl, sym, ap, ◌∙◌}
+use Rattle.std.proofs.Common.{◌≡◌, Bool, List, [], ◌∷◌, refl, ap, ◌∙◌}
 use Rattle.std.specs.Prelude.{Option}
 use Rattle.anstyle_parse.specs.Stream.Call.{Call, Goes}
 use Rattle.ansi_screen.specs.After.{State, after}
 use Rattle.ansi_screen.specs.History.{Kept, with_left}
 use Rattle.ansi_screen.specs.Leaving.{with_kept}
-use Rattle.ansi_screen.proofs.LeavingTable.{with_left-none}
 use Rattle.screen_html.specs.Links.{Table}
 use Rattle.screen_html.specs.Page.{links_by, all_links}
 use Rattle.screen_answers.specs.declared.answering.Answering.{Answering}
@@ -25,14 +24,14 @@ links-more : (keeps : Bool) (call : Call) (calls : List Call) (s : State) (links
     → all_links calls (screen_after keeps call s) (links_by call (screen_after keeps call s) links) ≡ all_links (call ∷ calls) s links
 links-more keeps call calls s links =
     let m : State = after call s in
-    let h : Option Kept = with_left (rows_kept keeps call s) s.display.history in
+    let h : Option Kept = with_left (rows_kept keeps call s) s.history in
     ap (λ (e : State). all_links calls e (links_by call e links)) (by-call keeps call s)
     ∙ (all_links-kept h calls m (links_by call (with_kept h m) links)
     ∙ ap (all_links calls m) (links_by-kept h call m links))
 
 led : (calls : List Call) (t : Answering) → GoByThemselves calls t (answering_after_all calls t)
 led [] t = record {
-  screen = ap (λ (h : Option Kept). with_kept h t.screen) (sym (with_left-none t.screen.display.history));
+  screen = refl;
   links = refl;
   asked = refl;
   request = refl;

@@ -67,7 +67,7 @@ screen_alone groups marks ignore final t alone =
     let next : State = after call t.screen in
     let asked : Asked = asked_after call t.asked in
     let shown : shown_after call t ≡ next =
-    ap (λ erases. if not erases || t.keeps_erased then next else with_kept t.screen.display.history next) (alone-erases marks final alone) in
+    ap (λ erases. if not erases || t.keeps_erased then next else with_kept t.screen.history next) (alone-erases marks final alone) in
     ap (λ (s : State). record t {
       screen = s;
       asked = asked;

@@ -29,4 +29,4 @@ all_kept keeps_erased (call ∷ calls) s = rows_kept keeps_erased call s ++ all_
 -- The screen after a call: where the rows that leave are not kept, what is kept stays.
 abbrev pub screen_after : (keeps_erased : Bool) → Call → State → State
 screen_after keeps_erased call s =
-    if is_kept keeps_erased call then after call s else with_kept s.display.history (after call s)
+    if is_kept keeps_erased call then after call s else with_kept s.history (after call s)

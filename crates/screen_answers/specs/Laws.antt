@@ -20,7 +20,7 @@ Answers old bytes new = (calls : List Call) × AreCalls bytes calls × (new ≡ 
 -- terminal's own colours stay.
 pub record GoByThemselves (calls : List Call) (old new : Answering) : Type 0 where
   pub screen : new.screen ≡ with_kept
-      (with_left (all_kept old.keeps_erased calls old.screen) old.screen.display.history) (after_all calls old.screen)
+      (with_left (all_kept old.keeps_erased calls old.screen) old.screen.history) (after_all calls old.screen)
   pub links : new.links ≡ all_links calls old.screen old.links
   pub asked : new.asked ≡ asked_after_all calls old.asked
   pub request : new.request ≡ request_after_all calls old.request

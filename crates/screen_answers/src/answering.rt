@@ -115,7 +115,7 @@ impl Answering {
     #[inline(never)]
     fn control_unkept(&mut self, params: &Params, intermediates: &[u8], ignore: bool, action: u8)
         ensures { self.new ≡ record self.old {
-          screen = with_kept self.old.screen.display.history
+          screen = with_kept self.old.screen.history
               (after (csi_dispatch (groups_shown params.now) intermediates.now ignore action) self.old.screen);
         } }
     {
@@ -133,7 +133,7 @@ impl Answering {
     #[inline(never)]
     fn escape_unkept(&mut self, intermediates: &[u8], ignore: bool, byte: u8)
         ensures { self.new ≡ record self.old {
-          screen = with_kept self.old.screen.display.history
+          screen = with_kept self.old.screen.history
               (after (esc_dispatch intermediates.now ignore byte) self.old.screen);
         } }
     {

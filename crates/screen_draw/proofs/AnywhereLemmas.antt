@@ -21,7 +21,7 @@ use Rattle.screen_draw.proofs.RedrawnLemmas.{redrawn-is}
 use Rattle.screen_draw.proofs.NotedLemmas.{since-stays}
 
 pub drawn-anywhere : (d : Display) (before : List ℕ) (old new : State) → AreCalls (canon (drawn_calls d)) (drawn_calls d) → IsScreen d → HasContents d → IsScreen old.display
-    → old.display.width ≡ d.width → old.display.height ≡ d.height → Shows old (before ++ canon (drawn_calls d)) new → unkept new ≡ drawn_state old.display.shown d
+    → old.display.width ≡ d.width → old.display.height ≡ d.height → Shows old (before ++ canon (drawn_calls d)) new → unkept new ≡ drawn_state old.shown d
 drawn-anywhere d before old new made is holds old_is width height (calls, are, leads) =
     let first = machine_calls decoded (before ++ escape_byte ∷ []) (new_machine []) in
     let rest = (escape_text [] false ++ 0x63 ∷ []) ++ canon (shown_screen_calls d) in

@@ -39,13 +39,12 @@ row-begins i width cells begins whole =
     let there : i / width * width ≡ i = omega arith in
     ap (λ k. is_right (cell_at k cells).part) (sym there) ∙ whole.rows_begin (i / width)
 
--- A screen as it is when cells are drawn: all of it between the margins, without insert mode. It keeps no rows.
+-- A screen as it is when cells are drawn: all of it between the margins, without insert mode.
 pub record IsOpen (base : Display) : Type 0 where
   pub top : base.top ≡ 0
   pub bottom : base.bottom ≡ base.height
   pub replaces : base.inserts ≡ false
   pub unlinked : base.link ≡ 0
-  pub unkept : base.history ≡ None
   pub wide : 2 ≤ base.width
 
 module _ (base : Display) (open_is : IsOpen base) (cells : List Cell) (fill : length cells ≡ base.height * base.width)
@@ -142,7 +141,7 @@ module _ (base : Display) (open_is : IsOpen base) (cells : List Cell) (fill : le
       let width_is : second.display.width ≡ base.width = ap (λ (d : Display). d.width) homed in
       let count : length printed ≡ length wanted = long ∙ (fill ∙ sym fits) in
       let cleared : third.display ≡ on all (replicate (length wanted) (blank plain)) home =
-      after-clear second (omega arith) (ap (λ (d : Display). d.history) homed ∙ open_is.unkept)
+      after-clear second (omega arith)
       ∙ (ap (λ (d : Display). erased_cells 0 (length d.cells) d) homed
       ∙ (ap (λ l. on all l home) (clear-all printed (blank plain)) ∙ ap (λ n. on all (replicate n (blank plain)) home) count)) in
       let painted : Painted all [] None (length wanted) first_pen third =

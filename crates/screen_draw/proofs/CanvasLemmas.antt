@@ -1,6 +1,6 @@
 -- Single calls of a drawing: what each does to a display.
 use Rattle.std.proofs.Common.{◌≡◌, ℕ, suc, ◌+◌, ◌-◌, ◌<◌, ◌≤◌, Bool, true, false, List, [], ◌∷◌, ◌++◌, length, take, drop, set, refl, ap, sym, ◌∙◌, arith}
-use Rattle.std.specs.Prelude.{min, max, nat_lt, nat_eq, not, if◌then◌else◌, Option, None}
+use Rattle.std.specs.Prelude.{min, max, nat_lt, nat_eq, if◌then◌else◌}
 use Rattle.std.proofs.lemmas.Bool.{and_right, le-ltb, ne_eqb}
 use Rattle.std.proofs.lemmas.List.{get_or-append_right}
 use Rattle.anstyle_parse.specs.Stream.Call.{print}
@@ -11,10 +11,8 @@ use Rattle.ansi_screen.specs.declared.cell.Cell.{Cell}
 use Rattle.ansi_screen.specs.declared.place.Place.{Place}
 use Rattle.ansi_screen.specs.Cells.{blank, is_right, cell_at, cut, within, change, marked_before}
 use Rattle.ansi_screen.specs.Display.{Display, fresh, here, row_end, home, letters}
-use Rattle.ansi_screen.specs.History.{Kept, with_left}
-use Rattle.ansi_screen.specs.Text.{printed_rows}
-use Rattle.ansi_screen.specs.Moves.{to_position, settled}
-use Rattle.ansi_screen.specs.Edits.{with_cells, erased_cells, erased_characters, erases_all, erases_from_row, kept_by_erase, erased_display, erased_part}
+use Rattle.ansi_screen.specs.Moves.{to_position}
+use Rattle.ansi_screen.specs.Edits.{with_cells, erased_cells, erased_characters, erases_from_row, erased_display, erased_part}
 use Rattle.ansi_screen.specs.Widths.{is_shown, columns}
 use Rattle.ansi_screen.specs.Print.{wrapped, with_room, with_glyph, put, marked, shown, draws, printed}
 use Rattle.ansi_screen.specs.Modes.{with_private_mode, with_origin}
@@ -29,9 +27,9 @@ use Rattle.screen_draw.proofs.SelectedLemmas.{after-private, after-select, after
 abbrev pub on : Display → List Cell → Place → Display
 on base cells place = record base { cells = cells; cursor = place }
 
--- a new display, of which was shown what was shown of another
+-- a new display of the size of another
 abbrev pub as_new : Display → Display
-as_new d = record (fresh d.width d.height) { shown = d.shown }
+as_new d = fresh d.width d.height
 
 -- lists, before a place and behind it
 pub take-front : (front back : List Cell) → take (length front) (front ++ back) ≡ front
@@ -166,19 +164,10 @@ after-erase_run n s inside =
     let end : min (row_end s.display) (here s.display + suc n) ≡ here s.display + suc n = omega arith in
     rw (column, count, end) refl
 
--- ED of all, in the first column, where no rows are kept
-none-kept : (t : Bool) (rows : List (List Cell)) (history : Option Kept) → history ≡ None → (if t then with_left rows history else history) ≡ history
-none-kept true rows history none = rw none refl
-none-kept false rows history none = refl
-
-erase-keeps : (d : Display) → d.history ≡ None → kept_by_erase 2 d ≡ d.history
-unfolding kept_by_erase erases_all
-erase-keeps d none = none-kept (not d.is_alternate) (printed_rows d) d.history none
-
-pub after-clear : (s : State) → s.display.cursor.column < s.display.width → s.display.history ≡ None
+-- ED of all
+pub after-clear : (s : State) → s.display.cursor.column < s.display.width
     → (after (sequence (2 ∷ []) 0x4A) s).display ≡ erased_cells 0 (length s.display.cells) s.display
 unfolding sequenced is_repeat function_of controlled is_known edited erased_display erases_from_row erased_part
-after-clear s inside none =
+after-clear s inside =
     let column : min s.display.cursor.column (s.display.width - 1) ≡ s.display.cursor.column = omega arith in
-    ap (λ (history : Option Kept). erased_cells 0 (length s.display.cells) (record (settled s.display) { history = history })) (erase-keeps (settled s.display) none)
-    ∙ rw column refl
+    rw column refl

@@ -22,7 +22,7 @@ use Rattle.ansi_screen.proofs.PairLemmas.{paired-take, paired-drop, paired-first
 use Rattle.ansi_screen.proofs.ContentLemmas.{cells-take, cells-drop}
 use Rattle.ansi_screen.proofs.LawLemmas.{after_all-append}
 use Rattle.screen_draw.specs.Draw.{private_mode, position, select, style_calls, wrap_calls, last_cell, last_column}
-use Rattle.screen_draw.specs.Redrawn.{as_printed, as_drawn, drawn_cells, as_shown}
+use Rattle.screen_draw.specs.Redrawn.{as_printed, as_drawn, drawn_cells, redrawn}
 use Rattle.screen_draw.specs.Alike.{lacks_print}
 use Rattle.screen_draw.specs.Update.{move_calls, row_calls, begun_at, place_behind, rows_calls, wants_wrap, cursor_changes, mode_changes, changes_from}
 use Rattle.screen_draw.proofs.AlikeLemmas.{flag-same}
@@ -82,7 +82,7 @@ after-mode_at mode old new s false same d does is = does new s is
 
 -- the cells, with the size of the other screen, and its picture
 abbrev pub sized : Display → Display → Display
-sized a b = record a { width = b.width; height = b.height; shown = b.shown }
+sized a b = record a { width = b.width; height = b.height }
 
 module _ (other b : Display) (from : IsScreen (sized other b)) (has : HasContents (sized other b)) (to : IsScreen b) (gets : HasContents b)
     (is : Steady (sized other b) b) (top : other.top ≡ b.top) (bottom : other.bottom ≡ b.bottom) where
@@ -257,25 +257,25 @@ module _ (other b : Display) (from : IsScreen (sized other b)) (has : HasContent
       (λ u e is_old. after-private 7 u e ∙ ap (λ (d : Display). record d { wraps = u }) is_old) at)
 
   -- the frame is that of the other screen
-  begun : as_shown a.shown a ≡ on base (map as_drawn a.cells) a.cursor
+  begun : redrawn a ≡ on base (map as_drawn a.cells) a.cursor
   begun =
       let long : length a.hidden ≡ length b.hidden = from.sized.hidden_fill ∙ sym to.sized.hidden_fill in
       let frame : Frame a b = is.frame in
       let all : List Cell = map as_drawn a.cells in
-      ap (λ l. record (as_shown a.shown a) { cells = l }) (printed-last a is.prints)
-      ∙ (ap (λ l. record (as_shown a.shown a) { cells = all; hidden = l }) (same-hidden a b frame long has gets)
-      ∙ (ap (λ t. record (as_shown a.shown a) { cells = all; hidden = map as_drawn b.hidden; is_alternate = t }) frame.alternate
-      ∙ (ap (λ p. record (as_shown a.shown a) { cells = all; hidden = map as_drawn b.hidden; is_alternate = b.is_alternate; saved = p }) frame.saved
-      ∙ (ap (λ p. record (as_shown a.shown a) { cells = all; hidden = map as_drawn b.hidden; is_alternate = b.is_alternate; saved = b.saved; hidden_saved = p }) frame.hidden_saved
-      ∙ (ap (λ n. record (as_shown a.shown a) { cells = all; hidden = map as_drawn b.hidden; is_alternate = b.is_alternate; saved = b.saved; hidden_saved = b.hidden_saved; top = n }) top
-      ∙ (ap (λ n. record (as_shown a.shown a) { cells = all; hidden = map as_drawn b.hidden; is_alternate = b.is_alternate; saved = b.saved; hidden_saved = b.hidden_saved; top = b.top; bottom = n }) bottom
-      ∙ (ap (λ l. record (as_shown a.shown a) { cells = all; hidden = map as_drawn b.hidden; is_alternate = b.is_alternate; saved = b.saved; hidden_saved = b.hidden_saved; top = b.top; bottom = b.bottom; tabs = l }) frame.tabs
+      ap (λ l. record (redrawn a) { cells = l }) (printed-last a is.prints)
+      ∙ (ap (λ l. record (redrawn a) { cells = all; hidden = l }) (same-hidden a b frame long has gets)
+      ∙ (ap (λ t. record (redrawn a) { cells = all; hidden = map as_drawn b.hidden; is_alternate = t }) frame.alternate
+      ∙ (ap (λ p. record (redrawn a) { cells = all; hidden = map as_drawn b.hidden; is_alternate = b.is_alternate; saved = p }) frame.saved
+      ∙ (ap (λ p. record (redrawn a) { cells = all; hidden = map as_drawn b.hidden; is_alternate = b.is_alternate; saved = b.saved; hidden_saved = p }) frame.hidden_saved
+      ∙ (ap (λ n. record (redrawn a) { cells = all; hidden = map as_drawn b.hidden; is_alternate = b.is_alternate; saved = b.saved; hidden_saved = b.hidden_saved; top = n }) top
+      ∙ (ap (λ n. record (redrawn a) { cells = all; hidden = map as_drawn b.hidden; is_alternate = b.is_alternate; saved = b.saved; hidden_saved = b.hidden_saved; top = b.top; bottom = n }) bottom
+      ∙ (ap (λ l. record (redrawn a) { cells = all; hidden = map as_drawn b.hidden; is_alternate = b.is_alternate; saved = b.saved; hidden_saved = b.hidden_saved; top = b.top; bottom = b.bottom; tabs = l }) frame.tabs
       ∙ ap (λ t. on (record base { inserts = t }) all a.cursor) is.replaces)))))))
 
-  ended : made b.wraps b.is_visible ≡ as_shown b.shown b
+  ended : made b.wraps b.is_visible ≡ redrawn b
   ended = ap (λ t. record (made b.wraps b.is_visible) { inserts = t }) (sym is.to_replaces)
 
-  pub from-drawn : (s : State) → s.display ≡ as_shown a.shown a → (after_all (changes_from a.cursor a b) s).display ≡ as_shown b.shown b
+  pub from-drawn : (s : State) → s.display ≡ redrawn a → (after_all (changes_from a.cursor a b) s).display ≡ redrawn b
   from-drawn s at =
       let rows : List Call = rows_calls b.height a.cursor a b in
       let p : Place = place_behind b.height a.cursor a b in

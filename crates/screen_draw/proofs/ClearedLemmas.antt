@@ -16,7 +16,7 @@ use Rattle.ansi_screen.specs.After.{State, after, after_all, function_of, contro
 use Rattle.ansi_screen.specs.Reachable.{IsScreen, HasContents}
 use Rattle.ansi_screen.proofs.LawLemmas.{after_all-append}
 use Rattle.screen_draw.specs.Draw.{escape, sequence, private_mode, plain_calls}
-use Rattle.screen_draw.specs.Redrawn.{as_printed, as_drawn, drawn_cells, as_shown}
+use Rattle.screen_draw.specs.Redrawn.{as_printed, as_drawn, drawn_cells, redrawn}
 use Rattle.screen_draw.specs.Update.{reset_stop_calls, reset_stops_calls, leave_calls, reset_modes, cleared_calls}
 use Rattle.screen_draw.proofs.SelectedLemmas.{after-private, after-insert}
 use Rattle.screen_draw.proofs.CanvasLemmas.{on, as_new, after-plain, after-clear}
@@ -92,10 +92,10 @@ drawn-fill : (d : Display) → length (drawn_cells d) ≡ length d.cells
 drawn-fill d =
     set-long (d.cursor.column == d.width) (map as_drawn d.cells) (row_end d - 1) (as_printed (cell_at (row_end d - 1) d.cells)) ∙ drawn-length d.cells
 
-left_at : (d : Display) (s : State) (t : Bool) → d.is_alternate ≡ t → IsScreen d → HasContents d → s.display ≡ as_shown d.shown d → Main d (after_all (leave_calls t) s)
+left_at : (d : Display) (s : State) (t : Bool) → d.is_alternate ≡ t → IsScreen d → HasContents d → s.display ≡ redrawn d → Main d (after_all (leave_calls t) s)
 unfolding with_private_mode with_alternate to_main restored
 left_at d s true is screen contents at =
-    let e : Display = as_shown d.shown d in
+    let e : Display = redrawn d in
     let y : Display = record e {
       cells = e.hidden;
       saved = e.hidden_saved;
@@ -130,9 +130,9 @@ left_at d s false is screen contents at =
         (
           d.saved,
           at
-              ∙ (ap (λ l. record (as_shown d.shown d) { hidden = l }) hidden
-              ∙ (ap (λ q. record (as_shown d.shown d) { hidden = blanks d.width d.height; hidden_saved = q }) nothing.1
-              ∙ ap (λ t. record (as_shown d.shown d) { hidden = blanks d.width d.height; hidden_saved = home; is_alternate = t }) is)),
+              ∙ (ap (λ l. record (redrawn d) { hidden = l }) hidden
+              ∙ (ap (λ q. record (redrawn d) { hidden = blanks d.width d.height; hidden_saved = q }) nothing.1
+              ∙ ap (λ t. record (redrawn d) { hidden = blanks d.width d.height; hidden_saved = home; is_alternate = t }) is)),
         ),
       ),
     )
@@ -174,7 +174,7 @@ after-reset_modes d cells p q s screen contents at =
 first-stop : (n width : ℕ) → n ≡ width → length {A = Bool} [] + n ≡ width
 first-stop n width is = omega arith
 
-pub cleared-is : (d : Display) (s : State) → IsScreen d → HasContents d → s.display ≡ as_shown d.shown d → (after_all (cleared_calls d) s).display ≡ as_new d
+pub cleared-is : (d : Display) (s : State) → IsScreen d → HasContents d → s.display ≡ redrawn d → (after_all (cleared_calls d) s).display ≡ as_new d
 cleared-is d s screen contents at =
     let w : ℕ = d.width in
     let h : ℕ = d.height in
@@ -203,7 +203,7 @@ cleared-is d s screen contents at =
     let wide : 2 ≤ w = screen.sized.two_columns in
     let six : State = after (sequence (2 ∷ []) 0x4A) five in
     let clear : six.display ≡ on base (blanks w h) home =
-    after-clear five (omega arith) (ap (λ (e : Display). e.history) homed)
+    after-clear five (omega arith)
     ∙ (ap (λ (e : Display). erased_cells 0 (length e.cells) e) homed
     ∙ (ap (λ l. on base l home) (clear-all cells (blank plain)) ∙ ap (λ n. on base (replicate n (blank plain)) home) fill)) in
     ap (λ (e : State). e.display) (after_all-append (leave_calls d.is_alternate) (reset_modes ++ (plain_calls ++ (stops_are ++ (plain_calls ++ last)))) s)

@@ -3,7 +3,8 @@ use Rattle.std.proofs.Common.{◌≡◌, ℕ, ◌+◌, ◌-◌, ◌*◌, ◌≤�
 use Rattle.std.proofs.lemmas.List.{take-take, drop-drop, drop_all, length-take}
 use Rattle.ansi_screen.specs.declared.cell.Cell.{Cell}
 use Rattle.ansi_screen.specs.Damage.{KeepsColumns}
-use Rattle.ansi_screen.specs.Display.{Display, Frame, Picture, picture, row_cells, shown_cells}
+use Rattle.ansi_screen.specs.Display.{Display, Frame, Picture, picture, row_cells}
+use Rattle.ansi_screen.specs.State.{State, shown_cells}
 use Rattle.ansi_screen.specs.Following.{IsShownOf}
 use Rattle.screen_draw.specs.Changed.{KeepsFrame}
 
@@ -30,14 +31,14 @@ columns-whole row a b same = record {
 }
 
 -- what was shown of a row is that row of the screen that is shown; and so is the frame
-pub row-shown : (row : ℕ) (wanted d : Display) → IsShownOf wanted d → shown_cells row wanted ≡ row_cells row d
-row-shown row wanted d is =
-    ap (λ (p : Picture). take wanted.width (drop (row * wanted.width) p.cells)) is.picture
-    ∙ ap (λ w. take w (drop (row * w) d.cells)) (sym is.width)
+pub row-shown : (row : ℕ) (wanted s : State) → IsShownOf wanted s → shown_cells row wanted ≡ row_cells row s.display
+row-shown row wanted s is =
+    ap (λ (p : Picture). take wanted.display.width (drop (row * wanted.display.width) p.cells)) is.picture
+    ∙ ap (λ w. take w (drop (row * w) s.display.cells)) (sym is.width)
 
-pub frame-shown : (wanted d : Display) → IsShownOf wanted d → (picture wanted).frame ≡ wanted.shown.frame → KeepsFrame d wanted
-frame-shown wanted d is same =
-    let frame : (picture wanted).frame ≡ (picture d).frame = same ∙ ap (λ (p : Picture). p.frame) is.picture in
+pub frame-shown : (wanted s : State) → IsShownOf wanted s → (picture wanted.display).frame ≡ wanted.shown.frame → KeepsFrame s.display wanted.display
+frame-shown wanted s is same =
+    let frame : (picture wanted.display).frame ≡ (picture s.display).frame = same ∙ ap (λ (p : Picture). p.frame) is.picture in
     record {
       alternate = ap (λ (f : Frame). f.is_alternate) frame;
       hidden = ap (λ (f : Frame). f.hidden) frame;

@@ -29,4 +29,3 @@ pub mod UpdatesLemmas
 pub mod ColumnLemmas
 pub mod SkippedLemmas
 pub mod NotedLemmas
-pub mod PictureLemmas

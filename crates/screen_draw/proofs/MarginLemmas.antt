@@ -11,7 +11,7 @@ use Rattle.ansi_screen.specs.After.{State, after_all, function_of, controlled, s
 use Rattle.ansi_screen.specs.Reachable.{IsScreen, HasContents, HasMargins}
 use Rattle.ansi_screen.proofs.LawLemmas.{after_all-append}
 use Rattle.screen_draw.specs.Draw.{margins_calls}
-use Rattle.screen_draw.specs.Redrawn.{as_shown}
+use Rattle.screen_draw.specs.Redrawn.{redrawn}
 use Rattle.screen_draw.specs.Alike.{has_same_margins, lacks_print, is_steady}
 use Rattle.screen_draw.specs.Update.{row_calls, brush_after, begun_at, place_behind, rows_calls, cursor_changes, mode_changes, changes_from, changes_calls}
 use Rattle.screen_draw.proofs.FrameLemmas.{Steady, steady-is, same-margins, printed-last}
@@ -150,15 +150,15 @@ module _ (other b : Display) (from : IsScreen (sized other b)) (has : HasContent
     };
   }
 
-  next-shown : (s : State) → has_same_margins a b ≡ false → s.display ≡ as_shown a.shown a → (after_all (margins_calls b) s).display ≡ as_shown b.shown (sized next b)
+  next-shown : (s : State) → has_same_margins a b ≡ false → s.display ≡ redrawn a → (after_all (margins_calls b) s).display ≡ redrawn (sized next b)
   next-shown s other_margins at =
-      after-margins_calls b (as_shown a.shown a) s at is.absolute
+      after-margins_calls b (redrawn a) s at is.absolute
       (two-rows a b gets.margins other_margins from.sized.margins from.sized.margins_within)
       to.sized.margins_within
-      ∙ ap (λ l. record (as_shown b.shown (sized next b)) { cells = l }) (printed-last a is.prints ∙ sym (printed-last (sized next b) next-prints))
+      ∙ ap (λ l. record (redrawn (sized next b)) { cells = l }) (printed-last a is.prints ∙ sym (printed-last (sized next b) next-prints))
 
-  drawn_at : (s : State) (t : Bool) → has_same_margins a b ≡ t → s.display ≡ as_shown a.shown a
-      → (after_all ((if t then [] else margins_calls b) ++ changes_from (if t then a.cursor else start) a b) s).display ≡ as_shown b.shown b
+  drawn_at : (s : State) (t : Bool) → has_same_margins a b ≡ t → s.display ≡ redrawn a
+      → (after_all ((if t then [] else margins_calls b) ++ changes_from (if t then a.cursor else start) a b) s).display ≡ redrawn b
   drawn_at s true same at =
       let margins = same-margins a b same in
       from-drawn other b from has to gets is margins.0 margins.1 s at
@@ -168,5 +168,5 @@ module _ (other b : Display) (from : IsScreen (sized other b)) (has : HasContent
       ∙ (ap (λ (l : List Call). (after_all l behind).display) (sym (from-same a b start))
       ∙ from-drawn next b next-screen next-contents to gets next-steady refl refl behind (next-shown s differ at))
 
-  pub changes-drawn : (s : State) → s.display ≡ as_shown a.shown a → (after_all (changes_calls a b) s).display ≡ as_shown b.shown b
+  pub changes-drawn : (s : State) → s.display ≡ redrawn a → (after_all (changes_calls a b) s).display ≡ redrawn b
   changes-drawn s at = drawn_at s _ refl at

@@ -1,29 +1,28 @@
 -- The whole drawing leads to the screen that is drawn.
-use Rattle.std.proofs.Common.{◌≡◌, ℕ, ◌+◌, Bool, true, List, [], length, refl, ap, sym, ◌∙◌, arith}
-use Rattle.std.specs.Prelude.{map, None}
+use Rattle.std.proofs.Common.{◌≡◌, ℕ, ◌+◌, Bool, true, List, [], length, refl, ap, ap₂, sym, ◌∙◌, arith}
+use Rattle.std.specs.Prelude.{map, Option, None}
 use Rattle.ansi_screen.specs.declared.cell.Cell.{Cell}
 use Rattle.ansi_screen.specs.declared.place.Place.{Place}
-use Rattle.ansi_screen.specs.Display.{Display, Picture, home, fresh, stops, letters}
+use Rattle.ansi_screen.specs.Display.{Display, home, fresh, stops, letters}
 use Rattle.ansi_screen.specs.After.{State, after, after_all}
 use Rattle.ansi_screen.specs.Leaving.{unkept}
 use Rattle.ansi_screen.specs.Reachable.{IsScreen, HasContents}
 use Rattle.ansi_screen.proofs.LawLemmas.{after-reset}
-use Rattle.ansi_screen.proofs.PictureLemmas.{unkept-after_all}
 use Rattle.screen_draw.specs.Draw.{escape, plain_calls, covered_calls, screen_calls, stops_calls, cursor_calls, shown_screen_calls, drawn_calls}
-use Rattle.screen_draw.specs.Redrawn.{as_drawn, drawn_cells, drawn_state}
+use Rattle.screen_draw.specs.Redrawn.{as_drawn, drawn_cells, redrawn, drawn_state}
 use Rattle.screen_draw.proofs.SelectedLemmas.{after-modes, last-calls, before_cursor}
 use Rattle.screen_draw.proofs.CanvasLemmas.{on, as_new, after-plain}
 use Rattle.screen_draw.proofs.BehindLemmas.{IsOpen, after-screen}
 use Rattle.screen_draw.proofs.RestLemmas.{over, after-covered, stops_from, stops-are, after-stops, after-margins}
 use Rattle.screen_draw.proofs.CursorLemmas.{full, after-cursor}
-use Rattle.screen_draw.proofs.PictureLemmas.{screen-since, contents-since}
+use Rattle.screen_draw.proofs.NotedLemmas.{since-stays}
 
 first-column : (n width : ℕ) → n ≡ width → length {A = Bool} [] + n ≡ width
 first-column n width is = omega arith
 
 module _ (d : Display) (new : State) (screen : IsScreen d) (contents : HasContents d) (new-is : new.display ≡ as_new d) where
   opened : IsOpen (over d)
-  opened = record { top = refl; bottom = refl; replaces = refl; unlinked = refl; unkept = refl; wide = screen.sized.two_columns }
+  opened = record { top = refl; bottom = refl; replaces = refl; unlinked = refl; wide = screen.sized.two_columns }
 
   -- before the cursor
   abbrev Before : State → Type 0
@@ -48,21 +47,24 @@ module _ (d : Display) (new : State) (screen : IsScreen d) (contents : HasConten
       let (k, stopped) = after-stops base all d.tabs [] third (first-column (length d.tabs) d.width screen.sized.tabs_fill) (none, tabs) in
       after-margins (record base { tabs = d.tabs }) all k d (after_all (stops_calls 0 d.tabs) third) stopped contents.margins screen.sized.margins screen.sized.margins_within refl refl refl
 
-  pub shown-is : after_all (shown_screen_calls d) new ≡ drawn_state d.shown d
+  pub shown-is : (after_all (shown_screen_calls d) new).display ≡ redrawn d
   shown-is =
       let before : State = before_cursor d new in
       let (p, at, letter) = before-is in
       let placed : State = after_all (cursor_calls d) before in
       let there : placed.display ≡ on (full d) (drawn_cells d) d.cursor = after-cursor true true d screen contents p before at letter in
-      last-calls d new
-      ∙ ap (λ (e : Display). record { display = e; last = None })
-      (after-modes d placed ∙ ap (λ (e : Display). record e { wraps = d.wraps; inserts = d.inserts; is_visible = d.is_visible }) there)
+      ap (λ (s : State). s.display) (last-calls d new)
+      ∙ (after-modes d placed ∙ ap (λ (e : Display). record e { wraps = d.wraps; inserts = d.inserts; is_visible = d.is_visible }) there)
+
+  pub last-none : (after_all (shown_screen_calls d) new).last ≡ None
+  last-none = ap (λ (s : State). s.last) (last-calls d new)
 
 pub redrawn-is : (d : Display) (old : State) → IsScreen d → HasContents d → old.display.width ≡ d.width → old.display.height ≡ d.height
-    → unkept (after_all (drawn_calls d) old) ≡ drawn_state old.display.shown d
+    → unkept (after_all (drawn_calls d) old) ≡ drawn_state old.shown d
 redrawn-is d old screen contents width height =
-    let since : Picture = old.display.shown in
-    sym (unkept-after_all (drawn_calls d) old)
-    ∙ shown-is (record d { shown = since }) (after (escape 0x63) (unkept old)) (screen-since since d screen) (contents-since since d contents)
-    (ap (λ (s : State). s.display) (after-reset (unkept old))
-    ∙ (ap (λ n. record (fresh n old.display.height) { shown = since }) width ∙ ap (λ n. record (fresh d.width n) { shown = since }) height))
+    let first : State = after (escape 0x63) old in
+    let new : first.display ≡ as_new d =
+    ap (λ (s : State). s.display) (after-reset old) ∙ (ap (λ n. fresh n old.display.height) width ∙ ap (λ n. fresh d.width n) height) in
+    ap₂ (λ (e : Display) (l : Option ℕ). record (unkept (after_all (drawn_calls d) old)) { display = e; last = l })
+    (shown-is d first screen contents new) (last-none d first screen contents new)
+    ∙ ap (λ p. drawn_state p d) (since-stays (drawn_calls d) old)

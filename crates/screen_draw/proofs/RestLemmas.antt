@@ -65,7 +65,7 @@ covered_at : (d : Display) (s : State) (t : Bool) → d.is_alternate ≡ t → I
     → Covers d (after_all (if t then screen_calls d.width d.hidden_saved d.hidden ++ (escape 0x38 ∷ private_mode 1049 true ∷ []) else []) s)
 covered_at d s true is screen contents new =
     let base : Display = as_new d in
-    let opened : IsOpen base = record { top = refl; bottom = refl; replaces = refl; unlinked = refl; unkept = refl; wide = screen.sized.two_columns } in
+    let opened : IsOpen base = record { top = refl; bottom = refl; replaces = refl; unlinked = refl; wide = screen.sized.two_columns } in
     let first : State = after_all (screen_calls d.width d.hidden_saved d.hidden) s in
     let second : State = after (escape 0x38) first in
     let (q, at) = after-screen base opened (blanks d.width d.height) (length-replicate (d.height * d.width) (blank plain)) d.hidden_saved screen.sized.hidden_row screen.sized.hidden_column contents.hidden_colored

@@ -1,16 +1,16 @@
 -- A drawing shows the text of the screen: what it can't tell is no part of that.
 use Rattle.std.proofs.Common.{◌≡◌, ℕ, zero, suc, ◌*◌, ◌-◌, Bool, true, false, List, [], ◌∷◌, ◌++◌, take, drop, map, set, get_or, refl, ap, ap₂, ◌∙◌, subst}
-use Rattle.std.specs.Prelude.{◌==◌, ◌&&◌, not, encode_utf8, if◌then◌else◌, ⊤, None}
+use Rattle.std.specs.Prelude.{◌==◌, ◌&&◌, not, encode_utf8, if◌then◌else◌, ⊤}
 use Rattle.std.specs.List.{flat_map}
 use Rattle.ansi_style.specs.Style.{plain}
 use Rattle.ansi_screen.specs.declared.cell.Cell.{Cell}
 use Rattle.ansi_screen.specs.declared.cell.Part.{Part}
 use Rattle.ansi_screen.specs.declared.cell.Part.TheVariants.{Empty, Whole, Left, Right}
 use Rattle.ansi_screen.specs.Cells.{is_right, cell_at, blank}
-use Rattle.ansi_screen.specs.Display.{Display, Picture, row_cells, row_end}
+use Rattle.ansi_screen.specs.Display.{Display, row_cells, row_end}
 use Rattle.ansi_screen.specs.Text.{marks_text, is_unmarked, is_blank, cell_text, used, row_text, used_rows, rows_text, text_of}
 use Rattle.screen_draw.specs.Draw.{is_erased}
-use Rattle.screen_draw.specs.Redrawn.{printed_part, as_printed, as_drawn, as_shown}
+use Rattle.screen_draw.specs.Redrawn.{printed_part, as_printed, as_drawn, redrawn}
 
 -- cells of the same text, of which both are blank or neither
 pub record HaveOneText (a b : Cell) : Type 0 where
@@ -123,13 +123,5 @@ cells-drawn : (d : Display) (pending : Bool)
 cells-drawn d true = texts-set (map as_drawn d.cells) d.cells (row_end d - 1) (as_printed (cell_at (row_end d - 1) d.cells)) (texts-drawn d.cells) (one-printed (cell_at (row_end d - 1) d.cells))
 cells-drawn d false = texts-drawn d.cells
 
-pub text-drawn : (since : Picture) (d : Display) → text_of (as_shown since d) ≡ text_of d
-text-drawn since d = text-same (as_shown since d) d refl refl (cells-drawn d (d.cursor.column == d.width))
-
--- What is kept of rows that left is no part of the text.
-texts-self : (cells : List Cell) → HaveTexts cells cells
-texts-self [] = tt
-texts-self (cell ∷ cells) = (record { text = refl; blanks = refl }, texts-self cells)
-
-pub text-unkept : (d : Display) → text_of (record d { history = None }) ≡ text_of d
-text-unkept d = text-same (record d { history = None }) d refl refl (texts-self d.cells)
+pub text-drawn : (d : Display) → text_of (redrawn d) ≡ text_of d
+text-drawn d = text-same (redrawn d) d refl refl (cells-drawn d (d.cursor.column == d.width))

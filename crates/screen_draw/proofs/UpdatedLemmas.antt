@@ -8,18 +8,16 @@ use Rattle.ansi_screen.specs.declared.cell.Part.{Part}
 use Rattle.ansi_screen.specs.declared.cell.Part.TheVariants.{Empty, Whole, Left, Right}
 use Rattle.ansi_screen.specs.declared.place.Place.{Place}
 use Rattle.ansi_screen.specs.Cells.{cell_at}
-use Rattle.ansi_screen.specs.Display.{Display, Picture, row_end}
+use Rattle.ansi_screen.specs.Display.{Display, row_end}
 use Rattle.anstyle_parse.specs.Stream.Call.{Call}
 use Rattle.anstyle_parse.specs.Stream.Canon.{canon}
 use Rattle.anstyle_parse.proofs.Canonical.Replay.{replay}
 use Rattle.std.specs.List.{AllByRecursion}
 use Rattle.ansi_screen.specs.After.{State, after_all, Shows}
-use Rattle.ansi_screen.specs.Leaving.{unkept}
 use Rattle.ansi_screen.specs.Reachable.{IsScreen, HasContents}
 use Rattle.ansi_screen.proofs.LawLemmas.{after_all-append, Shows-only}
-use Rattle.ansi_screen.proofs.PictureLemmas.{unkept-after_all}
 use Rattle.screen_draw.specs.Draw.{is_erased, shown_screen_calls}
-use Rattle.screen_draw.specs.Redrawn.{printed_part, as_printed, as_drawn, drawn_cells, as_shown}
+use Rattle.screen_draw.specs.Redrawn.{printed_part, as_printed, as_drawn, drawn_cells, redrawn, ShowsFrom}
 use Rattle.screen_draw.specs.Alike.{are_alike, all_two, are_same_places, has_same_frame, has_same_margins, has_same_modes, looks_same, is_steady}
 use Rattle.screen_draw.specs.Update.{changes_calls, cleared_calls, update_calls}
 use Rattle.screen_draw.specs.Drawing.{IsDrawing}
@@ -30,7 +28,7 @@ use Rattle.screen_draw.proofs.ChangesLemmas.{sized}
 use Rattle.screen_draw.proofs.MarginLemmas.{changes-drawn}
 use Rattle.screen_draw.proofs.ClearedLemmas.{cleared-is}
 use Rattle.screen_draw.proofs.RedrawnLemmas.{shown-is}
-use Rattle.screen_draw.proofs.PictureLemmas.{since, screen-since, contents-since, update-since}
+use Rattle.screen_draw.proofs.NotedLemmas.{since-stays}
 
 -- what is drawn is printed as what was
 twice-part : (part : Part) → printed_part (printed_part part) ≡ printed_part part
@@ -62,7 +60,7 @@ module _ (other b : Display) (old : State) where
   a = sized other b
 
   -- all of it the same
-  same-shown : IsScreen a → HasContents a → IsScreen b → HasContents b → looks_same a b ≡ true → as_shown a.shown a ≡ as_shown b.shown b
+  same-shown : IsScreen a → HasContents a → IsScreen b → HasContents b → looks_same a b ≡ true → redrawn a ≡ redrawn b
   unfolding looks_same
   same-shown from has to gets is =
       let h0 = and_parts (has_same_frame a b) (has_same_margins a b && (has_same_modes a b && (are_same_places a.cursor b.cursor && all_two are_alike a.cells b.cells))) is in
@@ -80,55 +78,46 @@ module _ (other b : Display) (old : State) where
       ∙ (ap (drawn_by b.width b.cursor) (all-drawn a.cells b.cells h2.1) ∙ sym (by-drawn b))) in
       let hidden : map as_drawn a.hidden ≡ map as_drawn b.hidden =
       same-hidden a b frame (from.sized.hidden_fill ∙ sym to.sized.hidden_fill) has gets in
-      ap (λ l. record (as_shown a.shown a) { cells = l }) cells
-      ∙ (ap (λ c. record (as_shown a.shown a) { cells = drawn_cells b; cursor = c }) cursor
-      ∙ (ap (λ l. record (as_shown a.shown a) { cells = drawn_cells b; cursor = b.cursor; hidden = l }) hidden
-      ∙ (ap (λ t. record (as_shown a.shown a) { cells = drawn_cells b; cursor = b.cursor; hidden = map as_drawn b.hidden; is_alternate = t }) frame.alternate
-      ∙ (ap (λ p. record (as_shown a.shown a) { cells = drawn_cells b; cursor = b.cursor; hidden = map as_drawn b.hidden; is_alternate = b.is_alternate; saved = p }) frame.saved
-      ∙ (ap (λ p. record (as_shown a.shown a) { cells = drawn_cells b; cursor = b.cursor; hidden = map as_drawn b.hidden; is_alternate = b.is_alternate; saved = b.saved; hidden_saved = p }) frame.hidden_saved
-      ∙ (ap (λ n. record (as_shown b.shown b) { top = n; bottom = a.bottom; tabs = a.tabs; wraps = a.wraps; inserts = a.inserts; is_visible = a.is_visible }) margins.0
-      ∙ (ap (λ n. record (as_shown b.shown b) { bottom = n; tabs = a.tabs; wraps = a.wraps; inserts = a.inserts; is_visible = a.is_visible }) margins.1
-      ∙ (ap (λ l. record (as_shown b.shown b) { tabs = l; wraps = a.wraps; inserts = a.inserts; is_visible = a.is_visible }) frame.tabs
-      ∙ (ap (λ t. record (as_shown b.shown b) { wraps = t; inserts = a.inserts; is_visible = a.is_visible }) (flag-same a.wraps b.wraps m0.0)
-      ∙ (ap (λ t. record (as_shown b.shown b) { inserts = t; is_visible = a.is_visible }) (flag-same a.inserts b.inserts m1.0)
-      ∙ ap (λ t. record (as_shown b.shown b) { is_visible = t }) (flag-same a.is_visible b.is_visible m1.1)))))))))))
+      ap (λ l. record (redrawn a) { cells = l }) cells
+      ∙ (ap (λ c. record (redrawn a) { cells = drawn_cells b; cursor = c }) cursor
+      ∙ (ap (λ l. record (redrawn a) { cells = drawn_cells b; cursor = b.cursor; hidden = l }) hidden
+      ∙ (ap (λ t. record (redrawn a) { cells = drawn_cells b; cursor = b.cursor; hidden = map as_drawn b.hidden; is_alternate = t }) frame.alternate
+      ∙ (ap (λ p. record (redrawn a) { cells = drawn_cells b; cursor = b.cursor; hidden = map as_drawn b.hidden; is_alternate = b.is_alternate; saved = p }) frame.saved
+      ∙ (ap (λ p. record (redrawn a) { cells = drawn_cells b; cursor = b.cursor; hidden = map as_drawn b.hidden; is_alternate = b.is_alternate; saved = b.saved; hidden_saved = p }) frame.hidden_saved
+      ∙ (ap (λ n. record (redrawn b) { top = n; bottom = a.bottom; tabs = a.tabs; wraps = a.wraps; inserts = a.inserts; is_visible = a.is_visible }) margins.0
+      ∙ (ap (λ n. record (redrawn b) { bottom = n; tabs = a.tabs; wraps = a.wraps; inserts = a.inserts; is_visible = a.is_visible }) margins.1
+      ∙ (ap (λ l. record (redrawn b) { tabs = l; wraps = a.wraps; inserts = a.inserts; is_visible = a.is_visible }) frame.tabs
+      ∙ (ap (λ t. record (redrawn b) { wraps = t; inserts = a.inserts; is_visible = a.is_visible }) (flag-same a.wraps b.wraps m0.0)
+      ∙ (ap (λ t. record (redrawn b) { inserts = t; is_visible = a.is_visible }) (flag-same a.inserts b.inserts m1.0)
+      ∙ ap (λ t. record (redrawn b) { is_visible = t }) (flag-same a.is_visible b.is_visible m1.1)))))))))))
 
-  updated_at : (t u : Bool) → is_steady a b ≡ t → looks_same a b ≡ u → IsScreen a → HasContents a → IsScreen b → HasContents b → old.display ≡ as_shown a.shown a
-      → (after_all (if t then changes_calls a b else if u then [] else cleared_calls a ++ shown_screen_calls b) old).display ≡ as_shown b.shown b
+  updated_at : (t u : Bool) → is_steady a b ≡ t → looks_same a b ≡ u → IsScreen a → HasContents a → IsScreen b → HasContents b → old.display ≡ redrawn a
+      → (after_all (if t then changes_calls a b else if u then [] else cleared_calls a ++ shown_screen_calls b) old).display ≡ redrawn b
   updated_at true u steady same from has to gets at = changes-drawn other b from has to gets steady old at
   updated_at false true steady same from has to gets at = at ∙ same-shown from has to gets same
   updated_at false false steady same from has to gets at =
       let clear : State = after_all (cleared_calls a) old in
-      ap (λ (e : State). e.display) (after_all-append (cleared_calls a) (shown_screen_calls b) old ∙ shown-is b clear to gets (cleared-is a old from has at))
+      ap (λ (e : State). e.display) (after_all-append (cleared_calls a) (shown_screen_calls b) old) ∙ shown-is b clear to gets (cleared-is a old from has at)
 
--- of a terminal that keeps no rows
-updated-is_unkept : (a b : Display) (since_then : Picture) (old : State) → IsScreen a → HasContents a → IsScreen b → HasContents b
-    → a.width ≡ b.width → a.height ≡ b.height → old.display ≡ as_shown since_then a
-    → (after_all (update_calls a b) old).display ≡ as_shown since_then b
-updated-is_unkept a b p old from has to gets width height at =
-    let first : Display = since p a in
-    let last : Display = since p b in
-    let same : first ≡ sized first last = ap (λ w. record first { width = w }) width ∙ ap (λ h. record first { width = b.width; height = h }) height in
-    ap (λ (l : List Call). (after_all l old).display) (sym (update-since p p a.history b.history a b))
-    ∙ subst (λ (x : Display). IsScreen x → HasContents x → old.display ≡ as_shown x.shown x
-    → (after_all (update_calls x last) old).display ≡ as_shown p b) (sym same)
-    (λ screen holds begun. updated_at first last old _ _ refl refl screen holds (screen-since p b to) (contents-since p b gets) begun)
-    (screen-since p a from) (contents-since p a has) at
-
--- and of any other
-pub updated-is : (a b : Display) (since_then : Picture) (old : State) → IsScreen a → HasContents a → IsScreen b → HasContents b
-    → a.width ≡ b.width → a.height ≡ b.height → (unkept old).display ≡ as_shown since_then a
-    → (unkept (after_all (update_calls a b) old)).display ≡ as_shown since_then b
-updated-is a b p old from has to gets width height at =
-    ap (λ (s : State). s.display) (sym (unkept-after_all (update_calls a b) old))
-    ∙ updated-is_unkept a b p (unkept old) from has to gets width height at
+pub updated-is : (a b : Display) (old : State) → IsScreen a → HasContents a → IsScreen b → HasContents b
+    → a.width ≡ b.width → a.height ≡ b.height → old.display ≡ redrawn a
+    → (after_all (update_calls a b) old).display ≡ redrawn b
+updated-is a b old from has to gets width height at =
+    let same : a ≡ sized a b = ap (λ w. record a { width = w }) width ∙ ap (λ h. record a { width = b.width; height = h }) height in
+    subst (λ (x : Display). IsScreen x → HasContents x → old.display ≡ redrawn x
+    → (after_all (update_calls x b) old).display ≡ redrawn b) (sym same)
+    (λ screen holds begun. updated_at a b old _ _ refl refl screen holds to gets begun)
+    from has at
 
 -- the same of its text
-pub updated-shows : (a b : Display) (since_then : Picture) (old new : State) → AllByRecursion IsDrawing (update_calls a b)
+pub updated-shows : (a b : Display) (old new : State) → AllByRecursion IsDrawing (update_calls a b)
     → a.width ≡ b.width → a.height ≡ b.height → IsScreen a → HasContents a → IsScreen b → HasContents b
-    → (unkept old).display ≡ as_shown since_then a → Shows old (canon (update_calls a b)) new → (unkept new).display ≡ as_shown since_then b
-updated-shows a b p old new drawing width height from has to gets at shows =
+    → old.display ≡ redrawn a → Shows old (canon (update_calls a b)) new → ShowsFrom old new b
+updated-shows a b old new drawing width height from has to gets at shows =
     let calls : List Call = update_calls a b in
-    ap (λ (s : State). (unkept s).display)
-    (Shows-only (canon calls) old new (after_all calls old) shows (calls, replay calls (drawing-lawful calls drawing), refl))
-    ∙ updated-is a b p old from has to gets width height at
+    let same : new ≡ after_all calls old =
+    Shows-only (canon calls) old new (after_all calls old) shows (calls, replay calls (drawing-lawful calls drawing), refl) in
+    record {
+      display = ap (λ (s : State). s.display) same ∙ updated-is a b old from has to gets width height at;
+      since = ap (λ (s : State). s.shown) same ∙ since-stays calls old;
+    }

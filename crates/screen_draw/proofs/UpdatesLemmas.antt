@@ -17,13 +17,14 @@ use Rattle.anstyle_parse.specs.Stream.Canon.{canon}
 use Rattle.anstyle_parse.proofs.Canonical.Items.{AreCalls-nil}
 use Rattle.anstyle_parse.proofs.Canonical.Replay.{replay}
 use Rattle.anstyle_parse.proofs.Written.Output.{Adds-append}
-use Rattle.ansi_screen.specs.After.{State, after_all, Shows}
+use Rattle.ansi_screen.specs.State.{State, as_shown}
+use Rattle.ansi_screen.specs.After.{after_all, Shows}
 use Rattle.ansi_screen.specs.Leaving.{unkept}
 use Rattle.ansi_screen.specs.Reachable.{IsScreen, HasContents}
-use Rattle.ansi_screen.specs.Display.{Picture, picture, forgotten, IsSized}
+use Rattle.ansi_screen.specs.Display.{Picture, picture, IsSized}
 use Rattle.ansi_screen.proofs.KeptCalls.{kept-after_all}
 use Rattle.ansi_screen.proofs.ContentLemmas.{contents-after_all}
-use Rattle.ansi_screen.proofs.PictureLemmas.{same-after_all, unkept-after_all}
+use Rattle.ansi_screen.proofs.LeftLemmas.{same-after_all, unkept-after_all}
 use Rattle.ansi_screen.proofs.SizeLemmas.{HasSize, sized-after_all}
 use Rattle.ansi_screen.proofs.LawLemmas.{after_all-append, Shows-only}
 use Rattle.screen_draw.specs.declared.updates.Stopped.{Stopped}
@@ -32,14 +33,13 @@ use Rattle.screen_draw.specs.Draw.{drawn_calls}
 use Rattle.screen_draw.specs.Drawing.{IsDrawing, Draws}
 use Rattle.ansi_screen.specs.Following.{IsShownOf, following}
 use Rattle.ansi_screen.specs.Laws.{with_shown}
-use Rattle.screen_draw.specs.Redrawn.{as_shown}
+use Rattle.screen_draw.specs.Redrawn.{redrawn, ShowsFrom}
 use Rattle.screen_draw.specs.Update.{update_calls}
 use Rattle.screen_draw.specs.Updates.{updates_calls, followed_calls, last_of, AreScreens, joined, IsPiece, StopsBy, LeadsTo, Follows, GetsOn, LooksAs, LooksAlike}
 use Rattle.screen_draw.proofs.DrawLemmas.{both-drawing, drawing-lawful, draws-append}
 use Rattle.screen_draw.proofs.RedrawnLemmas.{redrawn-is}
 use Rattle.screen_draw.proofs.UpdatedLemmas.{updated-is}
-use Rattle.screen_draw.proofs.PictureLemmas.{update-since}
-use Rattle.screen_draw.proofs.NotedLemmas.{noted-stays}
+use Rattle.screen_draw.proofs.NotedLemmas.{since-stays, noted-stays}
 
 -- a piece more
 pub joined-more : (pieces : List (List ℕ)) (piece : List ℕ) → joined (pieces ++ piece ∷ []) ≡ joined pieces ++ piece
@@ -120,31 +120,34 @@ module _ (first : State) (screen : IsScreen first.display) (contents : HasConten
   has-size bytes s shows = subst (λ (e : State). HasSize width height e.display) (sym shows.2)
       (sized-after_all width height shows.0 first (refl, refl, screen.sized.margins_within))
 
-  updates-follow : (since : Picture) (before : List ℕ) (pieces : List (List ℕ)) (screens : List State) (current old : State)
-      → Shows first before current → AreScreens first before pieces screens → (unkept old).display ≡ as_shown since current.display
-      → (unkept (after_all (updates_calls current screens) old)).display ≡ as_shown since (last_of current screens).display
-  updates-follow since before [] [] current old shows are at = at
-  updates-follow since before (piece ∷ pieces) (next ∷ screens) current old shows are at =
+  updates-follow : (before : List ℕ) (pieces : List (List ℕ)) (screens : List State) (current old : State)
+      → Shows first before current → AreScreens first before pieces screens → old.display ≡ redrawn current.display
+      → (after_all (updates_calls current screens) old).display ≡ redrawn (last_of current screens).display
+  updates-follow before [] [] current old shows are at = at
+  updates-follow before (piece ∷ pieces) (next ∷ screens) current old shows are at =
       let calls : List Call = update_calls current.display next.display in
       let here = has-size before current shows in
       let there = has-size (before ++ piece) next are.0 in
-      ap (λ (e : State). (unkept e).display) (after_all-append calls (updates_calls next screens) old)
-      ∙ updates-follow since (before ++ piece) pieces screens next (after_all calls old) are.0 are.1
-      (updated-is current.display next.display since old
+      ap (λ (e : State). e.display) (after_all-append calls (updates_calls next screens) old)
+      ∙ updates-follow (before ++ piece) pieces screens next (after_all calls old) are.0 are.1
+      (updated-is current.display next.display old
       (is-screen before current shows) (has-contents before current shows)
       (is-screen (before ++ piece) next are.0) (has-contents (before ++ piece) next are.0)
       (here.0 ∙ sym there.0) (here.1 ∙ sym there.1) at)
-  updates-follow since before [] (next ∷ screens) current old shows are at = absurd are
-  updates-follow since before (piece ∷ pieces) [] current old shows are at = absurd are
+  updates-follow before [] (next ∷ screens) current old shows are at = absurd are
+  updates-follow before (piece ∷ pieces) [] current old shows are at = absurd are
 
   pub followed-is : (pieces : List (List ℕ)) (screens : List State) (old : State)
       → old.display.width ≡ width → old.display.height ≡ height → AreScreens first [] pieces screens
-      → (unkept (after_all (followed_calls first screens) old)).display ≡ as_shown old.display.shown (last_of first screens).display
+      → ShowsFrom old (after_all (followed_calls first screens) old) (last_of first screens).display
   followed-is pieces screens old wide high are =
       let drawn : List Call = drawn_calls first.display in
-      ap (λ (e : State). (unkept e).display) (after_all-append drawn (updates_calls first screens) old)
-      ∙ updates-follow old.display.shown [] pieces screens first (after_all drawn old) (shows-nothing first) are
-      (ap (λ (e : State). e.display) (redrawn-is first.display old screen contents wide high))
+      record {
+        display = ap (λ (e : State). e.display) (after_all-append drawn (updates_calls first screens) old)
+            ∙ updates-follow [] pieces screens first (after_all drawn old) (shows-nothing first) are
+            (ap (λ (e : State). e.display) (redrawn-is first.display old screen contents wide high));
+        since = since-stays (followed_calls first screens) old;
+      }
 
 shows-last : (first current : State) (before : List ℕ) (pieces : List (List ℕ)) (screens : List State)
     → Shows first before current → AreScreens first before pieces screens → Shows first (before ++ joined pieces) (last_of current screens)
@@ -170,9 +173,9 @@ leads-to first pieces screens are drawing count = λ old new screen contents wid
     let calls : List Call = followed_calls first some in
     let draws : AllByRecursion IsDrawing calls = both-drawing drawn (updates_calls first some) (front-drawing drawn (updates_calls first screens) drawing)
     (updates-drawing count first screens (rest-drawing drawn (updates_calls first screens) drawing)) in
-    ap (λ (e : State). (unkept e).display)
-    (Shows-only (canon calls) old new (after_all calls old) shows (calls, replay calls (drawing-lawful calls draws), refl))
-    ∙ followed-is first screen contents (take count pieces) some old wide high (screens-front count first [] pieces screens are)
+    subst (λ (e : State). ShowsFrom old e (last_of first some).display)
+    (sym (Shows-only (canon calls) old new (after_all calls old) shows (calls, replay calls (drawing-lawful calls draws), refl)))
+    (followed-is first screen contents (take count pieces) some old wide high (screens-front count first [] pieces screens are))
 
 -- a fault that comes is that of a write
 module _ {W : Type 0} (sink : SinkOf W) where
@@ -212,9 +215,7 @@ pub draws-more : {W : Type 0} (sink : SinkOf W) (first shown wanted screen : Sta
 draws-more sink first shown wanted screen p q screens a b c d before same next added drawing none =
     let now : State = last_of first screens in
     let calls : List Call = update_calls now.display screen.display in
-    let is : update_calls shown.display wanted.display ≡ calls =
-    sym (update-since shown.display.shown wanted.display.shown None wanted.display.history shown.display wanted.display)
-    ∙ (ap₂ (λ (s t : State). update_calls s.display t.display) same next ∙ update-since p q None screen.display.history now.display screen.display) in
+    let is : update_calls shown.display wanted.display ≡ calls = ap₂ (λ (s t : State). update_calls s.display t.display) same next in
     let more : Draws sink calls b c = subst (λ (l : List Call). Draws sink l b c) is (record { added = added; drawing = drawing }) in
     subst (λ l. Draws sink l a d) (sym (calls-more first screen screens))
     (draws-append sink (updates_calls first screens) calls a b d before (passed-on sink calls b c d more none))
@@ -223,7 +224,7 @@ draws-more sink first shown wanted screen p q screens a b c d before same next a
 pub follows : {R W T : Type 0} (source : SourceOf R) (sink : SinkOf W) (reader reader_after : R) (first last : State) (a b c : Output W) (answer : Result T Stopped)
     (pieces : List (List ℕ)) (screens : List State)
     → Consumes (source.remaining reader) (source.remaining reader_after) (joined pieces) → AllByRecursion IsPiece pieces
-    → AreScreens first [] pieces screens → last ≡ with_shown last.display.shown (last_of first screens)
+    → AreScreens first [] pieces screens → last ≡ with_shown last.shown (last_of first screens)
     → Draws sink (drawn_calls first.display) a b → Draws sink (updates_calls first screens) b c
     → StopsBy answer (IsTrue source.zero_is_end → IsAtEnd (source.remaining reader_after)) (fault_in c) (HoldsBack sink (writer_in c))
     (source.has_failed reader) (source.has_failed reader_after) (length (joined pieces))
@@ -267,44 +268,44 @@ shows-more first last before piece calls shows continues =
     )
 
 -- with the picture that it has
-pub with-own : (s t : State) (since : Picture) → s ≡ with_shown since t → s ≡ with_shown s.display.shown t
-with-own s t since is = is ∙ ap (λ (e : State). with_shown e.display.shown t) (sym is)
+pub with-own : (s t : State) (since : Picture) → s ≡ with_shown since t → s ≡ with_shown s.shown t
+with-own s t since is = is ∙ ap (λ (e : State). with_shown e.shown t) (sym is)
 
-pub was-forgotten : (last wanted new : State) (since : Picture) → wanted ≡ with_shown since last → new ≡ record wanted { display = forgotten wanted.display }
+pub was-forgotten : (last wanted new : State) (since : Picture) → wanted ≡ with_shown since last → new ≡ as_shown wanted
     → new ≡ with_shown (picture last.display) last
-was-forgotten last wanted new since is forgets = forgets ∙ ap (λ (s : State). record s { display = forgotten s.display }) is
+was-forgotten last wanted new since is forgets = forgets ∙ ap as_shown is
 
 -- A piece more comes to the wanted screen: where both were the last one, it has noted all in which they differ then.
 pub record ComesOn (first last shown new : State) (before piece : List ℕ) : Type 0 where
   pub next : State
   pub shows : Shows first (before ++ piece) next
   pub is : new ≡ with_shown (picture last.display) next
-  pub noted : IsShownOf new.display shown.display
+  pub noted : IsShownOf new shown
 
 pub comes-on : (first last shown wanted new : State) (since : Picture) (before piece : List ℕ) (calls : List Call) → Shows first before last
     → Continues before piece calls → unkept shown ≡ with_shown since (unkept last) → wanted ≡ with_shown (picture last.display) last → IsSized wanted.display
     → new ≡ after_all calls wanted → ComesOn first last shown new before piece
 comes-on first last shown wanted new since before piece calls shows continues same to sized is =
-    let now : IsShownOf wanted.display (unkept shown).display =
-    subst (λ (s : State). IsShownOf wanted.display s.display) (sym same)
-    (subst (λ (s : State). IsShownOf s.display (with_shown since (unkept last)).display) (sym to) (record { width = refl; height = refl; picture = refl })) in
+    let now : IsShownOf wanted (unkept shown) =
+    subst (λ (s : State). IsShownOf wanted s) (sym same)
+    (subst (λ (s : State). IsShownOf s (with_shown since (unkept last))) (sym to) (record { width = refl; height = refl; picture = refl })) in
     record {
       next = after_all calls last;
       shows = shows-more first last before piece calls shows continues;
       is = is ∙ (ap (after_all calls) to ∙ same-after_all (picture last.display) calls last);
-      noted = subst (λ (s : State). IsShownOf s.display shown.display) (sym is)
-          (noted-stays calls wanted shown.display sized (record { width = now.width; height = now.height; picture = now.picture }));
+      noted = subst (λ (s : State). IsShownOf s shown) (sym is)
+          (noted-stays calls wanted shown sized (record { width = now.width; height = now.height; picture = now.picture }));
     }
 
 -- with the picture that it has
 alike-own : (s t : State) (since : Picture) → unkept s ≡ with_shown since (unkept t) → LooksAlike t s
-alike-own s t since is = is ∙ ap (λ (e : State). with_shown e.display.shown (unkept t)) (sym is)
+alike-own s t since is = is ∙ ap (λ (e : State). with_shown e.shown (unkept t)) (sym is)
 
 -- A piece more comes to the screen that is shown: it looks as the one to which all of it leads.
 pub comes-too : (first last next shown new : State) (before piece : List ℕ) (calls : List Call) → Shows first before last
     → Continues before piece calls → LooksAlike last shown → new ≡ after_all calls shown → Shows first (before ++ piece) next → LooksAlike next new
 comes-too first last next shown new before piece calls shows continues same is wanted =
-    let since : Picture = shown.display.shown in
+    let since : Picture = shown.shown in
     let there : after_all calls last ≡ next =
     Shows-only (before ++ piece) first (after_all calls last) next (shows-more first last before piece calls shows continues) wanted in
     alike-own new next since
@@ -316,7 +317,7 @@ comes-too first last next shown new before piece calls shows continues same is w
 
 -- It is copied from a screen that looks so.
 pub comes-copied : (next wanted shown new : State) → LooksAs next wanted
-    → new ≡ record { display = following wanted.display shown.display; last = wanted.last } → LooksAlike next new
+    → new ≡ following wanted shown → LooksAlike next new
 comes-copied next wanted shown new looks copied =
     alike-own new next (picture next.display)
-    (ap unkept copied ∙ ap (λ (s : State). unkept (record s { display = forgotten s.display })) looks)
+    (ap unkept copied ∙ ap (λ (s : State). unkept (as_shown s)) looks)

@@ -1,5 +1,5 @@
 -- What a drawing leads to: the screen that is drawn, but for what bytes cannot say.
-use Rattle.std.specs.Prelude.{◌-◌, ◌==◌, List, map, slice_set, None, if◌then◌else◌, false}
+use Rattle.std.specs.Prelude.{◌≡◌, ◌-◌, ◌==◌, List, map, slice_set, None, if◌then◌else◌, false}
 use Rattle.ansi_screen.specs.declared.cell.Cell.{Cell}
 use Rattle.ansi_screen.specs.declared.cell.Part.{Part}
 use Rattle.ansi_screen.specs.declared.cell.Part.TheVariants.{Empty, Whole}
@@ -28,18 +28,16 @@ drawn_cells d =
     then slice_set (map as_drawn d.cells) (row_end d - 1) (as_printed (cell_at (row_end d - 1) d.cells))
     else map as_drawn d.cells
 
--- the display, on which no link has begun; and the screen, on which nothing is left to REP. The terminal that shows it
--- has a picture of its own, from which on it notes what changes, and keeps that. What it keeps of the rows that left it
--- is no part of this.
-abbrev pub as_shown : (since : Picture) → Display → Display
-as_shown since d = record d {
-  cells = drawn_cells d;
-  hidden = map as_drawn d.hidden;
-  links = 0;
-  link = 0;
-  shown = since;
-  history = None;
-}
+-- the display, on which no link has begun
+abbrev pub redrawn : Display → Display
+redrawn d = record d { cells = drawn_cells d; hidden = map as_drawn d.hidden; links = 0; link = 0 }
 
+-- The screen, on which nothing is left to REP. The terminal that shows it has a picture of its own, from which on it notes
+-- what changes, and keeps that. What it keeps of the rows that left it is no part of this.
 abbrev pub drawn_state : (since : Picture) → Display → State
-drawn_state since d = record { display = as_shown since d; last = None }
+drawn_state since d = record { display = redrawn d; last = None; shown = since; history = None }
+
+-- A terminal shows this display, and notes what changes from the same picture on.
+pub record ShowsFrom (old new : State) (d : Display) : Type 0 where
+  pub display : new.display ≡ redrawn d
+  pub since : new.shown ≡ old.shown

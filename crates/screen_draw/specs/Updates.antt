@@ -19,7 +19,7 @@ use Rattle.screen_draw.specs.declared.updates.Stopped.{Stopped}
 use Rattle.screen_draw.specs.declared.updates.Stopped.TheVariants.{Stuck, AtFault}
 use Rattle.screen_draw.specs.Draw.{drawn_calls}
 use Rattle.ansi_screen.specs.Laws.{with_shown}
-use Rattle.screen_draw.specs.Redrawn.{as_shown}
+use Rattle.screen_draw.specs.Redrawn.{ShowsFrom}
 use Rattle.screen_draw.specs.Update.{update_calls}
 
 -- An update from each screen to the next,
@@ -38,11 +38,11 @@ last_of first (screen ∷ screens) = last_of screen screens
 
 -- A screen looks as another one: it is the same but for the picture from which on it notes what changes.
 abbrev pub LooksAs : State → State → Type 0
-LooksAs other screen = screen ≡ with_shown screen.display.shown other
+LooksAs other screen = screen ≡ with_shown screen.shown other
 
 -- It shows the same, but can have kept other rows that left: a copy does not take these along (`following`).
 abbrev pub LooksAlike : State → State → Type 0
-LooksAlike other screen = unkept screen ≡ with_shown screen.display.shown (unkept other)
+LooksAlike other screen = unkept screen ≡ with_shown screen.shown (unkept other)
 
 -- Each screen is the one that all bytes lead to, from the first screen and a new parser on, up to the end of its
 -- piece; `before` was read before these pieces.
@@ -88,7 +88,7 @@ StopsBy {T} (Ok done) at_end fault held failed failed_after count =
 abbrev pub LeadsTo : State → List ℕ → State → Type 0
 LeadsTo first bytes wanted = (old new : State) → IsScreen first.display → HasContents first.display
     → old.display.width ≡ first.display.width → old.display.height ≡ first.display.height
-    → Shows old bytes new → (unkept new).display ≡ as_shown old.display.shown wanted.display
+    → Shows old bytes new → ShowsFrom old new wanted.display
 
 -- A reader's bytes were followed, from a screen on.
 pub record Follows {R W T : Type 0} (source : SourceOf R) (sink : SinkOf W) (reader reader_after : R)

@@ -197,7 +197,7 @@ pub(crate) fn lacks_print(screen: &Screen) -> bool
 
 /// Whether both have the same frame, which is not asked where it can not have changed.
 fn keeps_frame(a: &Screen, b: &Screen, compared: Compared) -> bool
-    requires { AreCompared compared a.now.display b.now.display }
+    requires { AreCompared compared a.now b.now }
     ensures { result ≡ has_same_frame a.now.display b.now.display }
 {
     !compared.has_frame(b) || has_same_frame(a, b)
@@ -207,7 +207,7 @@ fn keeps_frame(a: &Screen, b: &Screen, compared: Compared) -> bool
 /// have changed.
 #[tactic(auto, unfolding(crate::specs::Alike::is_steady))]
 pub(crate) fn is_steady(a: &Screen, b: &Screen, compared: Compared) -> bool
-    requires { AreCompared compared a.now.display b.now.display }
+    requires { AreCompared compared a.now b.now }
     ensures { result ≡ is_steady a.now.display b.now.display }
 {
     is_plain(a)

@@ -1,6 +1,7 @@
 //! What an update compares of two screens.
 ghost use Rattle.std.specs.Prelude.{◌≡◌, ◌<◌, ◌≤◌, ◌⊎◌, ℕ, false};
-ghost use Rattle.ansi_screen.specs.Display.{Display, row_cells};
+ghost use Rattle.ansi_screen.specs.Display.{row_cells};
+ghost use Rattle.ansi_screen.specs.State.{State};
 ghost use Rattle.ansi_screen.specs.Damage.{KeepsColumns};
 ghost use Rattle.screen_draw.specs.Changed.{AreCompared, KeepsFrame};
 
@@ -18,9 +19,9 @@ impl Compared {
     pub(crate) fn rows(self, wanted: &Screen) -> (usize, usize)
         ensures order { result.0 ≤ result.1 }
         ensures within { result.1 ≤ wanted.now.display.height }
-        ensures others { (shown : Display) (row : ℕ) → AreCompared self shown wanted.now.display
+        ensures others { (shown : State) (row : ℕ) → AreCompared self shown wanted.now
             → row < wanted.now.display.height → (row < result.0) ⊎ (result.1 ≤ row)
-            → row_cells row wanted.now.display ≡ row_cells row shown }
+            → row_cells row wanted.now.display ≡ row_cells row shown.display }
     {
         match self {
             Compared::All => (0, wanted.rows()),
@@ -33,8 +34,8 @@ impl Compared {
         requires { row < wanted.now.display.height }
         ensures order { result.0 ≤ result.1 }
         ensures within { result.1 ≤ wanted.now.display.width }
-        ensures kept { (shown : Display) → AreCompared self shown wanted.now.display
-            → KeepsColumns result.0 result.1 (row_cells row shown) (row_cells row wanted.now.display) }
+        ensures kept { (shown : State) → AreCompared self shown wanted.now
+            → KeepsColumns result.0 result.1 (row_cells row shown.display) (row_cells row wanted.now.display) }
     {
         match self {
             Compared::All => (0, wanted.columns()),
@@ -44,8 +45,8 @@ impl Compared {
 
     /// Whether saved places, tabs and the alternate screen are compared.
     pub(crate) fn has_frame(self, wanted: &Screen) -> bool
-        ensures { (shown : Display) → AreCompared self shown wanted.now.display → result ≡ false
-            → KeepsFrame shown wanted.now.display }
+        ensures { (shown : State) → AreCompared self shown wanted.now → result ≡ false
+            → KeepsFrame shown.display wanted.now.display }
     {
         match self {
             Compared::All => true,

@@ -235,7 +235,7 @@ fn put_rows<W: Sink>(
     wanted: &Screen,
     compared: Compared,
 ) -> Place
-    requires { AreCompared compared shown.now.display wanted.now.display }
+    requires { AreCompared compared shown.now wanted.now }
     ensures calls { Draws W.Sink (rows_calls wanted.now.display.height start shown.now.display wanted.now.display)
         output.old output.new }
     ensures place { result ≡ place_behind wanted.now.display.height start shown.now.display wanted.now.display }
@@ -305,7 +305,7 @@ fn put_changes_from<W: Sink>(
     wanted: &Screen,
     compared: Compared,
 )
-    requires { AreCompared compared shown.now.display wanted.now.display }
+    requires { AreCompared compared shown.now wanted.now }
     ensures { Draws W.Sink (changes_from start shown.now.display wanted.now.display) output.old output.new }
 {
     let place = put_rows(output, start, shown, wanted, compared);
@@ -337,7 +337,7 @@ pub(crate) fn put_changes<W: Sink>(
     wanted: &Screen,
     compared: Compared,
 )
-    requires { AreCompared compared shown.now.display wanted.now.display }
+    requires { AreCompared compared shown.now wanted.now }
     ensures { Draws W.Sink (changes_calls shown.now.display wanted.now.display) output.old output.new }
 {
     if has_same_margins(shown, wanted) {

@@ -2,7 +2,7 @@
 ghost use Rattle.std.specs.Prelude.{◌≡◌, ◌<◌, ◌≤◌, ◌+◌, ◌*◌, ℕ, true, List, [], length};
 ghost use Rattle.ansi_screen.specs.After.{State, after_all, Shows};
 ghost use Rattle.ansi_screen.specs.Leaving.{unkept};
-ghost use Rattle.ansi_screen.specs.Display.{Display, IsSized, Picture};
+ghost use Rattle.ansi_screen.specs.Display.{Display, IsSized};
 ghost use Rattle.ansi_screen.specs.Following.{IsShownOf};
 ghost use Rattle.ansi_screen.specs.Reachable.{IsScreen, HasContents};
 ghost use Rattle.ansi_screen.specs.Text.{text_of};
@@ -11,7 +11,7 @@ ghost use Rattle.screen_draw.specs.Bound.{differing_cells, calls_of_cell, calls_
 ghost use Rattle.screen_draw.specs.Draw.{drawn_calls};
 ghost use Rattle.screen_draw.specs.Laws.{HasModes};
 ghost use Rattle.ansi_screen.specs.Laws.{with_shown};
-ghost use Rattle.screen_draw.specs.Redrawn.{as_shown, drawn_state};
+ghost use Rattle.screen_draw.specs.Redrawn.{redrawn, drawn_state, ShowsFrom};
 ghost use Rattle.screen_draw.specs.Alike.{are_alike, is_steady};
 ghost use Rattle.screen_draw.specs.Update.{move_calls, change_calls, update_calls};
 ghost use Rattle.screen_draw.specs.Updates.{AreScreens, followed_calls, last_of, joined};
@@ -25,7 +25,7 @@ pub fn forgets()
     ensures { (drawn : Display) (a b : State)
         → a.display.width ≡ b.display.width → a.display.height ≡ b.display.height
         → unkept (after_all (drawn_calls drawn) a)
-        ≡ with_shown a.display.shown (unkept (after_all (drawn_calls drawn) b)) }
+        ≡ with_shown a.shown (unkept (after_all (drawn_calls drawn) b)) }
 {}
 
 /// A drawing leaves the modes, and the style and the character sets of what comes next, as they are on the
@@ -45,16 +45,16 @@ pub fn selected()
 pub fn redrawn()
     ensures { (drawn : Display) (old : State) → IsScreen drawn → HasContents drawn
         → old.display.width ≡ drawn.width → old.display.height ≡ drawn.height
-        → unkept (after_all (drawn_calls drawn) old) ≡ drawn_state old.display.shown drawn }
+        → unkept (after_all (drawn_calls drawn) old) ≡ drawn_state old.shown drawn }
 {}
 
 /// The other screen shows: the calls of an update lead a terminal that shows the one, as a drawing or an update
 /// leaves it, to what a drawing of the other leads to, but for the rows that left, which it keeps.
 pub fn updated()
-    ensures { (shown wanted : Display) (since : Picture) (old : State) → IsScreen shown → HasContents shown
+    ensures { (shown wanted : Display) (old : State) → IsScreen shown → HasContents shown
         → IsScreen wanted → HasContents wanted → shown.width ≡ wanted.width → shown.height ≡ wanted.height
-        → (unkept old).display ≡ as_shown since shown
-        → (unkept (after_all (update_calls shown wanted) old)).display ≡ as_shown since wanted }
+        → old.display ≡ redrawn shown
+        → ShowsFrom old (after_all (update_calls shown wanted) old) wanted }
 {}
 
 /// A terminal follows a stream: the calls of a drawing, and of an update after each piece, lead every screen of the
@@ -65,8 +65,7 @@ pub fn followed()
         → IsScreen first.display → HasContents first.display
         → old.display.width ≡ first.display.width → old.display.height ≡ first.display.height
         → AreScreens first [] pieces screens
-        → (unkept (after_all (followed_calls first screens) old)).display
-        ≡ as_shown old.display.shown (last_of first screens).display }
+        → ShowsFrom old (after_all (followed_calls first screens) old) (last_of first screens).display }
     ensures whole { (first : State) (pieces : List (List ℕ)) (screens : List State)
         → AreScreens first [] pieces screens → Shows first (joined pieces) (last_of first screens) }
 {}
@@ -75,7 +74,7 @@ pub fn followed()
 /// that follows a stream shows the text of the screen that the stream leads to (`followed`): what `--updates` writes of
 /// a stream has the text of the stream.
 pub fn same_text()
-    ensures shown { (since : Picture) (d : Display) → text_of (as_shown since d) ≡ text_of d }
+    ensures shown { (d : Display) → text_of (redrawn d) ≡ text_of d }
     ensures drawn { (drawn : Display) (old : State) → IsScreen drawn → HasContents drawn
         → old.display.width ≡ drawn.width → old.display.height ≡ drawn.height
         → text_of (after_all (drawn_calls drawn) old).display ≡ text_of drawn }
@@ -89,8 +88,8 @@ pub fn same_text()
 /// What differs from a screen that is shown stays noted: where a screen has noted all in which it differs from the one
 /// that is shown, it has after any calls.
 pub fn noted()
-    ensures { (calls : List Call) (screen : State) (shown : Display) → IsSized screen.display
-        → IsShownOf screen.display shown → IsShownOf (after_all calls screen).display shown }
+    ensures { (calls : List Call) (screen shown : State) → IsSized screen.display
+        → IsShownOf screen shown → IsShownOf (after_all calls screen) shown }
 {}
 
 /// What is the same is not drawn: nothing of a screen that shows, and no cell that is like the one that stands there,

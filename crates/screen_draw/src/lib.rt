@@ -32,11 +32,11 @@ ghost use Rattle.screen_draw.specs.Bound.{draw_bound, update_bound};
 ghost use Rattle.screen_draw.specs.Draw.{drawn_calls};
 ghost use Rattle.screen_draw.specs.Drawing.{IsDrawing, HaveNoReset};
 ghost use Rattle.ansi_screen.specs.Following.{IsShownOf};
-ghost use Rattle.screen_draw.specs.Redrawn.{as_shown, drawn_state};
+ghost use Rattle.screen_draw.specs.Redrawn.{redrawn, drawn_state, ShowsFrom};
 ghost use Rattle.screen_draw.specs.Update.{update_calls};
 ghost use Rattle.ansi_screen.specs.After.{State, Shows};
 ghost use Rattle.ansi_screen.specs.Leaving.{unkept};
-ghost use Rattle.ansi_screen.specs.Display.{Picture, IsSized};
+ghost use Rattle.ansi_screen.specs.Display.{IsSized};
 ghost use Rattle.ansi_screen.specs.Reachable.{IsScreen, HasContents};
 ghost use Rattle.std.specs.Prelude.{◌≡◌, ◌≤◌, ◌++◌, ℕ, List, length};
 ghost use Rattle.std.specs.List.{AllByRecursion};
@@ -71,14 +71,14 @@ pub fn draw<W: Sink>(screen: &Screen, output: &mut Output<W>)
     ensures redrawn { (old new : State) → IsScreen screen.now.display → HasContents screen.now.display
         → old.display.width ≡ screen.now.display.width → old.display.height ≡ screen.now.display.height
         → Shows old (canon (drawn_calls screen.now.display)) new
-        → unkept new ≡ drawn_state old.display.shown screen.now.display }
+        → unkept new ≡ drawn_state old.shown screen.now.display }
 
     // So it does after any bytes, also where these have begun a string or a character.
     ensures anywhere { (before : List ℕ) (old new : State) → IsScreen screen.now.display
         → HasContents screen.now.display → IsScreen old.display
         → old.display.width ≡ screen.now.display.width → old.display.height ≡ screen.now.display.height
         → Shows old (before ++ canon (drawn_calls screen.now.display)) new
-        → unkept new ≡ drawn_state old.display.shown screen.now.display }
+        → unkept new ≡ drawn_state old.shown screen.now.display }
 
     // They print what is shown, and have no controls but SO and SI, and no strings.
     ensures only { AllByRecursion IsDrawing (drawn_calls screen.now.display) }
@@ -113,11 +113,11 @@ pub fn update<W: Sink>(shown: &Screen, wanted: &Screen, output: &mut Output<W>)
 
     // A terminal that shows the one, as a drawing or an update leaves it, shows by this text the other, but for the
     // rows that left it, which it keeps.
-    ensures updated { (since : Picture) (old new : State) → IsScreen shown.now.display → HasContents shown.now.display
+    ensures updated { (old new : State) → IsScreen shown.now.display → HasContents shown.now.display
         → IsScreen wanted.now.display → HasContents wanted.now.display
-        → (unkept old).display ≡ as_shown since shown.now.display
+        → old.display ≡ redrawn shown.now.display
         → Shows old (canon (update_calls shown.now.display wanted.now.display)) new
-        → (unkept new).display ≡ as_shown since wanted.now.display }
+        → ShowsFrom old new wanted.now.display }
 
     // They print what is shown, and have no controls but SO and SI, and no strings; there is neither RIS nor DECSTR.
     ensures only { AllByRecursion IsDrawing (update_calls shown.now.display wanted.now.display) }
@@ -137,7 +137,7 @@ pub fn update<W: Sink>(shown: &Screen, wanted: &Screen, output: &mut Output<W>)
 // Out of line `tests/cells` finds it, and counts what it alone takes, in `ansi2screen`.
 #[inline(never)]
 pub fn update_noted<W: Sink>(shown: &Screen, wanted: &Screen, output: &mut Output<W>)
-    requires noted { IsShownOf wanted.now.display shown.now.display }
+    requires noted { IsShownOf wanted.now shown.now }
 
     // It adds the canonical text of these calls.
     ensures text { Adds W.Sink (canon (update_calls shown.now.display wanted.now.display)) output.old output.new }
@@ -149,11 +149,11 @@ pub fn update_noted<W: Sink>(shown: &Screen, wanted: &Screen, output: &mut Outpu
 
     // A terminal that shows the one, as a drawing or an update leaves it, shows by this text the other, but for the
     // rows that left it, which it keeps.
-    ensures updated { (since : Picture) (old new : State) → IsScreen shown.now.display → HasContents shown.now.display
+    ensures updated { (old new : State) → IsScreen shown.now.display → HasContents shown.now.display
         → IsScreen wanted.now.display → HasContents wanted.now.display
-        → (unkept old).display ≡ as_shown since shown.now.display
+        → old.display ≡ redrawn shown.now.display
         → Shows old (canon (update_calls shown.now.display wanted.now.display)) new
-        → (unkept new).display ≡ as_shown since wanted.now.display }
+        → ShowsFrom old new wanted.now.display }
 
     // They print what is shown, and have no controls but SO and SI, and no strings; there is neither RIS nor DECSTR.
     ensures only { AllByRecursion IsDrawing (update_calls shown.now.display wanted.now.display) }

@@ -58,7 +58,7 @@ fn come_after(
     parser: &Parser<Utf8Parser>,
     piece: &[u8],
 )
-    requires noted { IsShownOf wanted.now.display shown.old.display }
+    requires noted { IsShownOf wanted.now shown.old }
     ensures screen { (first last next : State) (before : List ℕ) → IsAfter front_of shown_parser.old before
         → Shows first before last → LooksAlike last shown.old
         → Shows first (before ++ piece.now) next → LooksAs next wanted.now → LooksAlike next shown.new }

@@ -51,7 +51,7 @@ pub(crate) fn put_update<W: Sink>(
     wanted: &Screen,
     compared: Compared,
 )
-    requires { AreCompared compared shown.now.display wanted.now.display }
+    requires { AreCompared compared shown.now wanted.now }
     ensures { Draws W.Sink (update_calls shown.now.display wanted.now.display) output.old output.new }
 {
     if is_steady(shown, wanted, compared) {

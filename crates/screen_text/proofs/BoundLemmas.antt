@@ -19,8 +19,7 @@ use Rattle.ansi_screen.specs.Text.{marks_text, cell_text, used, is_unprinted, go
 use Rattle.ansi_screen.specs.Leaving.{rows_left, all_left}
 use Rattle.ansi_screen.specs.Laws.{carriage_return, line_feed, is_wrapping}
 use Rattle.ansi_screen.specs.TextsProof.{after_all-append, all_left-append}
-use Rattle.ansi_screen.proofs.LeavingTable.{leaving, few-used, before_escape, before_leaving}
-use Rattle.ansi_screen.proofs.LeftLemmas.{rows_left-is, length-left as length-leaving}
+use Rattle.ansi_screen.proofs.LeavingTable.{leaving, few-used, before_escape, before_leaving, rows_left-is, length-left as length-leaving}
 use Rattle.ansi_screen.proofs.SizeLemmas.{HasSize, sized-after, sized-after_all, few-leave}
 use Rattle.ansi_screen.proofs.SwitchLemmas.{IsMain, none-or-main}
 use Rattle.screen_text.specs.Lines.{row_text, showing}

@@ -105,7 +105,7 @@ module _ (m place : ℕ) (front : List Cell) (x : Cell) where
 
 -- a mark that is shown leaves the cursor where it stands
 print-mark : (width height row column m : ℕ) (cells : List Cell) → is_shown m ≡ true → columns m ≡ 0 → 1 ≤ column
-    → printed m (at width height cells row column) ≡ at width height (marked_before m (row * width + column) cells) row column
+    → (printed m (at width height cells row column)).display ≡ at width height (marked_before m (row * width + column) cells) row column
 unfolding printed shown marked
 print-mark width height row column m cells is none some =
     let other : (column == 0) ≡ false = ne_eqb column 0 (λ e. omega (arith, e)) in
@@ -172,7 +172,7 @@ module _ (width height m : ℕ) (left all : List (List Cell)) (front : List Cell
       ∙ mark-glyph m place before x others rest glyph_there there
       ∙ sym (split (with_mark m x ∷ others))
 
-  pub typed-mark : Typed width height left all (front ++ with_mark m x ∷ others) (printed m d)
+  pub typed-mark : Typed width height left all (front ++ with_mark m x ∷ others) (printed m d).display
   typed-mark =
       let run : List Cell = with_mark m x ∷ others in
       let count : length (front ++ x ∷ others) ≡ length (front ++ run) = omega (arith, length-append front (x ∷ others), length-append front run) in
@@ -184,7 +184,7 @@ module _ (width height m : ℕ) (left all : List (List Cell)) (front : List Cell
       record {
         full = typed.full;
         rest = typed.rest;
-        is = ap (printed m) typed.is
+        is = ap (λ e. (printed m e).display) typed.is
             ∙ print-mark width height row (length (front ++ x ∷ others)) m (joined typed.full ++ ((front ++ x ∷ others) ++ spaces typed.rest)) is none some
             ∙ ap (λ l. at width height l row (length (front ++ x ∷ others))) (mark-cells (spaces typed.rest))
             ∙ ap (λ k. at width height (joined typed.full ++ ((front ++ run) ++ spaces typed.rest)) row k) count;

@@ -14,8 +14,7 @@ use Rattle.ansi_screen.specs.Leaving.{rows_left, all_left}
 use Rattle.ansi_screen.specs.Reachable.{IsScreen}
 use Rattle.ansi_screen.specs.Laws.{carriage_return, line_feed, erase_rest, printing, text_columns, is_wrapping}
 use Rattle.ansi_screen.specs.TextsProof.{all_left-append}
-use Rattle.ansi_screen.proofs.LeavingTable.{leaving_by_control, leaving_by_function, leaving_by_sequence, leaving_rows}
-use Rattle.ansi_screen.proofs.LeftLemmas.{rows_left-is}
+use Rattle.ansi_screen.proofs.LeavingTable.{leaving_by_control, leaving_by_function, leaving_by_sequence, leaving_rows, rows_left-is}
 use Rattle.ansi_screen.proofs.LawLemmas.{after_all-append}
 use Rattle.ansi_screen.proofs.KeptCalls.{kept-after, kept-after_all}
 use Rattle.ansi_screen.proofs.RowLemmas.{Wrote, printed-wrote}
@@ -40,7 +39,7 @@ printing-left : (text : List ℕ) (s : State) → IsScreen s.display → s.displ
     → all_left (printing text) s ≡ []
 printing-left [] s screen fits = refl
 printing-left (c ∷ text) s screen fits =
-    let wrote : Wrote (columns c) s.display (printed c s.display) = printed-wrote c s.display _ refl screen (omega arith) in
+    let wrote : Wrote (columns c) s.display (printed c s.display).display = printed-wrote c s.display _ refl screen (omega arith) in
     let width : (after (print c) s).display.width ≡ s.display.width = ap (λ (d : Display). d.width) wrote.is in
     let column : (after (print c) s).display.cursor.column ≡ wrote.column = ap (λ (d : Display). d.cursor.column) wrote.is in
     let near : wrote.column ≤ s.display.cursor.column + columns c = wrote.fits in
@@ -51,7 +50,7 @@ printing-width : (text : List ℕ) (s : State) → IsScreen s.display → s.disp
     → (after_all (printing text) s).display.width ≡ s.display.width
 printing-width [] s screen fits = refl
 printing-width (c ∷ text) s screen fits =
-    let wrote : Wrote (columns c) s.display (printed c s.display) = printed-wrote c s.display _ refl screen (omega arith) in
+    let wrote : Wrote (columns c) s.display (printed c s.display).display = printed-wrote c s.display _ refl screen (omega arith) in
     let width : (after (print c) s).display.width ≡ s.display.width = ap (λ (d : Display). d.width) wrote.is in
     let column : (after (print c) s).display.cursor.column ≡ wrote.column = ap (λ (d : Display). d.cursor.column) wrote.is in
     let near : wrote.column ≤ s.display.cursor.column + columns c = wrote.fits in
@@ -65,11 +64,11 @@ erase-left : (s : State) → rows_left erase_rest s ≡ []
 unfolding leaving_by_sequence leaving_by_function function_of
 erase-left s = rows_left-is erase_rest s
 
-return-column : (d : Display) → (executed 0x0D d).cursor.column ≡ min 0 (d.width - 1)
+return-column : (d : Display) → (executed 0x0D d).display.cursor.column ≡ min 0 (d.width - 1)
 unfolding executed
 return-column d = refl
 
-return-width : (d : Display) → (executed 0x0D d).width ≡ d.width
+return-width : (d : Display) → (executed 0x0D d).display.width ≡ d.width
 unfolding executed
 return-width d = refl
 

@@ -17,8 +17,7 @@ use Rattle.ansi_screen.specs.Text.{cell_text, used, is_unprinted}
 use Rattle.ansi_screen.specs.Leaving.{all_left}
 use Rattle.ansi_screen.specs.Laws.{carriage_return, line_feed, printing}
 use Rattle.ansi_screen.specs.TextsProof.{all_left-append}
-use Rattle.ansi_screen.proofs.LeavingTable.{leaving_rows}
-use Rattle.ansi_screen.proofs.LeftLemmas.{rows_left-is}
+use Rattle.ansi_screen.proofs.LeavingTable.{leaving_rows, rows_left-is}
 use Rattle.ansi_screen.proofs.PlainLemmas.{plain}
 use Rattle.ansi_screen.proofs.LawLemmas.{after_all-append}
 use Rattle.ansi_screen.proofs.KeptCalls.{columns-few}
@@ -132,17 +131,17 @@ module _ (width height : ℕ) (wide : 2 ≤ width) where
   -- a character
   print-glyph_at : (c least : ℕ) (left : List (List Cell)) (text : List ℕ) (d : Display) (t : Bool)
       → (line : Line width height least left text d) → nat_lt width (length line.current + columns c) ≡ t → is_shown c ≡ true → columns c ≢ 0
-      → Behind width height 2 (left ++ leaving_rows (print c) d) (text ++ encode_utf8 c) (printed c d)
+      → Behind width height 2 (left ++ leaving_rows (print c) d) (text ++ encode_utf8 c) (printed c d).display
   print-glyph_at c least left text d false line test is other =
       let some : 1 ≤ columns c = let no : columns c ≡ 0 → ⊥ = other in omega arith in
       let room : length line.current + columns c ≤ width = ltb-false width (length line.current + columns c) test in
       let few : columns c ≤ 2 = columns-few c _ _ refl refl in
       let run : List Cell = glyph (columns c) c plain 0 in
-      let next : Typed width height left line.all (line.current ++ run) (printed c d) =
+      let next : Typed width height left line.all (line.current ++ run) (printed c d).display =
       typed-put width height left line.all line.current d line.typed c is some few room in
       let none : leaving_rows (print c) d ≡ [] = put-left width height left line.all line.current d line.typed c room in
-      behind-run c (left ++ leaving_rows (print c) d) line.all line.current text (printed c d)
-      (subst (λ l. Typed width height l line.all (line.current ++ run) (printed c d)) (sym (ap (λ l. left ++ l) none ∙ append-nil left)) next) line.shows
+      behind-run c (left ++ leaving_rows (print c) d) line.all line.current text (printed c d).display
+      (subst (λ l. Typed width height l line.all (line.current ++ run) (printed c d).display) (sym (ap (λ l. left ++ l) none ∙ append-nil left)) next) line.shows
   print-glyph_at c least left text d true line test is other =
       let some : 1 ≤ columns c = let no : columns c ≡ 0 → ⊥ = other in omega arith in
       let full : width < length line.current + columns c = ltb-true width (length line.current + columns c) test in
@@ -151,15 +150,15 @@ module _ (width height : ℕ) (wide : 2 ≤ width) where
       let row : List Cell = mark (width - 1) (line.current ++ spaces blank) in
       let marked : row_text row ≡ flat_map cell_text line.current =
       text-marked line.current blank width line.typed.printed (row-long width height left line.all line.current d line.typed) (omega arith) in
-      behind-run c (left ++ leaving_rows (print c) d) (line.all ++ row ∷ []) [] text (printed c d)
+      behind-run c (left ++ leaving_rows (print c) d) (line.all ++ row ∷ []) [] text (printed c d).display
       (typed-wrap width height c left line.all line.current d line.typed wide is some few full)
       (append-nil (rows_text (line.all ++ row ∷ [])) ∙ (rows-push line.all row ∙ (ap (λ l. rows_text line.all ++ l) marked ∙ line.shows)))
 
   -- a mark
   print-mark_at : (m room : ℕ) (left : List (List Cell)) (text : List ℕ) (d : Display) → Behind width height (suc room) left text d → is_shown m ≡ true → columns m ≡ 0
-      → Behind width height room (left ++ leaving_rows (print m) d) (text ++ encode_utf8 m) (printed m d)
+      → Behind width height room (left ++ leaving_rows (print m) d) (text ++ encode_utf8 m) (printed m d).display
   print-mark_at m room left text d it is none =
-      let next : Typed width height left it.all (it.front ++ with_mark m it.first ∷ it.others) (printed m d) =
+      let next : Typed width height left it.all (it.front ++ with_mark m it.first ∷ it.others) (printed m d).display =
       typed-mark width height m left it.all it.front it.first it.others d it.glyph it.typed is none in
       let takes : suc room ≤ room_of it.first.marks = it.takes in
       record {
@@ -167,7 +166,7 @@ module _ (width height : ℕ) (wide : 2 ≤ width) where
         front = it.front;
         first = with_mark m it.first;
         others = it.others;
-        typed = subst (λ l. Typed width height l it.all (it.front ++ with_mark m it.first ∷ it.others) (printed m d))
+        typed = subst (λ l. Typed width height l it.all (it.front ++ with_mark m it.first ∷ it.others) (printed m d).display)
             (sym (ap (λ l. left ++ l) (mark-left m d none) ∙ append-nil left)) next;
         shows = ap (λ l. rows_text it.all ++ l)
             (flat_map-append cell_text it.front (with_mark m it.first ∷ it.others)

@@ -24,8 +24,7 @@ use Rattle.ansi_screen.specs.After.{State, new_state, after, after_all}
 use Rattle.ansi_screen.specs.Text.{cell_text, marks_text, used, is_unprinted, goes_on, printed_count, printed_rows, first_rows}
 use Rattle.ansi_screen.specs.Laws.{is_wrapping}
 use Rattle.ansi_screen.specs.Leaving.{rows_left, all_left}
-use Rattle.ansi_screen.proofs.LeavingTable.{leaving, before_escape, before_leaving}
-use Rattle.ansi_screen.proofs.LeftLemmas.{rows_left-is}
+use Rattle.ansi_screen.proofs.LeavingTable.{leaving, before_escape, before_leaving, rows_left-is}
 use Rattle.ansi_screen.proofs.CharacterLemmas.{PrintsCharacter, AreGoodMarks, IsGoodCell, AreGood, IsGoodState, good-new, good-after_all, good-left}
 use Rattle.ansi_screen.proofs.ContentLemmas.{cells-take, cells-drop, cells-at, contents-new, contents-after, contents-after_all}
 use Rattle.ansi_screen.proofs.KeptCalls.{kept-after}

@@ -9,7 +9,7 @@ use Rattle.std.proofs.Math.Nat.{suc-mul}
 use Rattle.ansi_screen.specs.declared.cell.Cell.{Cell}
 use Rattle.ansi_screen.specs.Cells.{blank, cell_at, cut, within, change, going_on, moved_back}
 use Rattle.ansi_screen.specs.Display.{Display}
-use Rattle.ansi_screen.specs.Edits.{rows_up, kept_by_scroll, index}
+use Rattle.ansi_screen.specs.Edits.{rows_up, index}
 use Rattle.ansi_screen.specs.Widths.{is_shown, columns}
 use Rattle.ansi_screen.specs.Print.{glyph, wrapped, with_room, with_cells_of, with_glyph, put, shown, printed}
 use Rattle.ansi_screen.specs.Text.{first_rows}
@@ -60,7 +60,7 @@ put-glyph front run n m place long =
 -- a character that has room
 pub put-room : (width height row column n m c : ℕ) (front : List Cell) → is_shown c ≡ true → columns c ≡ n → 1 ≤ n
     → length front ≡ row * width + column → column + n ≤ width
-    → printed c (at width height (front ++ spaces (n + m)) row column) ≡ at width height (front ++ (glyph n c plain 0 ++ spaces m)) row (column + n)
+    → (printed c (at width height (front ++ spaces (n + m)) row column)).display ≡ at width height (front ++ (glyph n c plain 0 ++ spaces m)) row (column + n)
 unfolding printed shown put wrapped with_room with_glyph with_cells_of
 put-room width height row column n m c front is one some long room =
     let fits : nat_lt width (column + n) ≡ false = le-ltb width (column + n) room in
@@ -78,8 +78,8 @@ put-room width height row column n m c front is one some long room =
 -- a character that has none is printed as on the next row
 pub put-wrapped : (width height row column row_then n c : ℕ) (cells cells_then : List Cell) → is_shown c ≡ true → columns c ≡ n → 1 ≤ n
     → width < column + n → n ≤ width
-    → index (at width height (going_on true (row * width + width) cells) row 0) ≡ at width height cells_then row_then 0
-    → printed c (at width height cells row column) ≡ printed c (at width height cells_then row_then 0)
+    → (index (at width height (going_on true (row * width + width) cells) row 0)).display ≡ at width height cells_then row_then 0
+    → (printed c (at width height cells row column)).display ≡ (printed c (at width height cells_then row_then 0)).display
 unfolding printed shown put wrapped
 put-wrapped width height row column row_then n c cells cells_then is one some full room indexed =
     let past : nat_lt width (column + n) ≡ true = lt-ltb width (column + n) full in
@@ -90,7 +90,7 @@ put-wrapped width height row column row_then n c cells cells_then is one some fu
 
 -- the next row: above the last, and on it, where the first row leaves
 index-below : (width height row column : ℕ) (cells : List Cell) → (row + 1 == height) ≡ false → row + 1 < height
-    → index (at width height cells row column) ≡ at width height cells (row + 1) column
+    → (index (at width height cells row column)).display ≡ at width height cells (row + 1) column
 unfolding index
 index-below width height row column cells other below =
     let next : min (row + 1) (height - 1) ≡ row + 1 = omega arith in
@@ -112,8 +112,8 @@ back-first width end first rest long all_long =
 
 index-last : (width height row column : ℕ) (first rest : List Cell) → (row + 1 == height) ≡ true → length first ≡ width
     → length (first ++ rest) ≡ height * width
-    → index (at width height (first ++ rest) row column) ≡ at width height (rest ++ spaces width) row column
-unfolding index rows_up kept_by_scroll
+    → (index (at width height (first ++ rest) row column)).display ≡ at width height (rest ++ spaces width) row column
+unfolding index rows_up
 index-last width height row column first rest last long all_long =
     let from : 0 * width ≡ 0 = omega arith in
     let one : 1 * width ≡ width = omega arith in
@@ -166,7 +166,7 @@ pub next-row : (width height rest : ℕ) (left all full : List (List Cell)) (row
     → AreLong width full → length row ≡ width → length full < height → length full * width + (width + rest) ≡ height * width
     → left ++ full ≡ all → ArePlainRows all → ArePlainCells row → (left ≡ []) ⊎ (length full + 1 ≡ height)
     → Next width height left (all ++ row ∷ []) (at width height (joined full ++ (row ++ spaces rest)) (length full) 0)
-    (index (at width height (joined full ++ (row ++ spaces rest)) (length full) 0))
+    (index (at width height (joined full ++ (row ++ spaces rest)) (length full) 0)).display
 next-row width height rest left all full row false other are long below fill split even plain_row scrolled =
     let cells : List Cell = joined full ++ (row ++ spaces rest) in
     let d : Display = at width height cells (length full) 0 in
@@ -224,7 +224,7 @@ next-row width height rest left all full row true last are long below fill split
       typed = record {
         full = others;
         rest = rest + width;
-        is = ap (λ l. index (at width height l (length full) 0)) same
+        is = ap (λ l. (index (at width height l (length full) 0)).display) same
             ∙ (index-last width height (length full) 0 first behind last first_long whole
             ∙ (ap (λ l. at width height l (length full) 0)
             (append_assoc (joined others) (spaces rest) (spaces width) ∙ ap (λ l. joined others ++ l) (sym (spaces-split rest width)))

@@ -11,12 +11,12 @@ use Rattle.ansi_screen.specs.Display.{Display, row_cells}
 use Rattle.ansi_screen.specs.Edits.{row_going_on, index}
 use Rattle.ansi_screen.specs.Widths.{is_shown, columns}
 use Rattle.ansi_screen.specs.Print.{glyph, printed}
-use Rattle.ansi_screen.specs.After.{State, executed, after, after_all}
+use Rattle.ansi_screen.specs.State.{State, Step}
+use Rattle.ansi_screen.specs.After.{executed, after, after_all}
 use Rattle.ansi_screen.specs.Text.{first_rows}
 use Rattle.ansi_screen.specs.Leaving.{rows_left, all_left}
 use Rattle.ansi_screen.specs.Laws.{carriage_return, line_feed, is_wrapping}
-use Rattle.ansi_screen.proofs.LeavingTable.{leaving_up, leaving_by_index, leaving_by_control, leaving_rows}
-use Rattle.ansi_screen.proofs.LeftLemmas.{rows_left-is}
+use Rattle.ansi_screen.proofs.LeavingTable.{leaving_up, leaving_by_index, leaving_by_control, leaving_rows, rows_left-is}
 use Rattle.ansi_screen.proofs.PlainLemmas.{plain, at, return-first}
 use Rattle.ansi_screen.proofs.WholeLemmas.{length-glyph}
 use Rattle.screen_text.proofs.RowTextLemmas.{spaces, mark, plain-printed, plain-mark, length-mark, printed-append, printed-glyph}
@@ -61,7 +61,7 @@ module _ (width height : ℕ) (left all : List (List Cell)) (current : List Cell
 
   -- a character that has room
   pub typed-put : (c : ℕ) → is_shown c ≡ true → 1 ≤ columns c → columns c ≤ 2 → length current + columns c ≤ width
-      → Typed width height left all (current ++ glyph (columns c) c plain 0) (printed c d)
+      → Typed width height left all (current ++ glyph (columns c) c plain 0) (printed c d).display
   typed-put c is some few room =
       let n : ℕ = columns c in
       let run : List Cell = glyph n c plain 0 in
@@ -77,8 +77,8 @@ module _ (width height : ℕ) (left all : List (List Cell)) (current : List Cell
       record {
         full = typed.full;
         rest = rest;
-        is = ap (printed c) typed.is
-            ∙ (ap (λ l. printed c (at width height l (length typed.full) (length current)))
+        is = ap (λ e. (printed c e).display) typed.is
+            ∙ (ap (λ l. (printed c (at width height l (length typed.full) (length current))).display)
             (ap (λ k. joined typed.full ++ (current ++ spaces k)) together ∙ sym (append_assoc (joined typed.full) current (spaces (n + rest))))
             ∙ (put-room width height (length typed.full) (length current) n rest c front is refl some front_long room
             ∙ (ap (λ l. at width height l (length typed.full) (length current + n))
@@ -120,20 +120,20 @@ typed-feed width height left all current s typed =
     let rest : ℕ = typed.rest - (width - length current) in
     let row_there : ℕ = length typed.full in
     let first : Display = at width height (joined typed.full ++ (row ++ spaces rest)) row_there 0 in
-    let returned : executed 0x0D d ≡ first =
-    ap (executed 0x0D) typed.is
+    let returned : (executed 0x0D d).display ≡ first =
+    ap (λ e. (executed 0x0D e).display) typed.is
     ∙ (return-first width height row_there (length current) (joined typed.full ++ (current ++ spaces typed.rest))
     ∙ ap (λ l. at width height l row_there 0) (row-cells_split width height left all current d typed)) in
-    let fed : executed 0x0A (executed 0x0D d) ≡ index first =
-    ap (executed 0x0A) returned ∙ feed-index width height row_there (joined typed.full ++ (row ++ spaces rest)) in
-    let next : Next width height left (all ++ row ∷ []) first (index first) =
+    let fed : (executed 0x0A (executed 0x0D d).display).display ≡ (index first).display =
+    ap (λ e. (executed 0x0A e).display) returned ∙ ap (λ (x : Step). x.display) (feed-index width height row_there (joined typed.full ++ (row ++ spaces rest))) in
+    let next : Next width height left (all ++ row ∷ []) first (index first).display =
     next-row width height rest left all typed.full row _ refl typed.long (row-long width height left all current d typed) typed.below
     (row-fill width height left all current d typed) typed.split typed.even (plain-printed current (width - length current) typed.printed) typed.scrolled in
     let out : all_left (carriage_return ∷ line_feed ∷ []) s ≡ next.out =
     ap (λ l. l ++ (rows_left line_feed there ++ [])) (return-left s)
     ∙ (append-nil (rows_left line_feed there)
     ∙ (rows_left-is line_feed there ∙ (ap (λ e. leaving_rows line_feed e) returned ∙ (feed-left first ∙ next.is)))) in
-    subst (λ l. Typed width height (left ++ l) (all ++ row ∷ []) [] (executed 0x0A (executed 0x0D d))) (sym out)
+    subst (λ l. Typed width height (left ++ l) (all ++ row ∷ []) [] (executed 0x0A (executed 0x0D d).display).display) (sym out)
     (subst (λ e. Typed width height (left ++ next.out) (all ++ row ∷ []) [] e) (sym fed) next.typed)
 
 -- a character that has no room: the row is marked
@@ -190,7 +190,7 @@ wrap-left width height row column c cells is some full =
 pub typed-wrap : (width height c : ℕ) (left all : List (List Cell)) (current : List Cell) (d : Display) → Typed width height left all current d
     → 2 ≤ width → is_shown c ≡ true → 1 ≤ columns c → columns c ≤ 2 → width < length current + columns c
     → Typed width height (left ++ leaving_rows (print c) d) (all ++ mark (width - 1) (current ++ spaces (width - length current)) ∷ [])
-    (glyph (columns c) c plain 0) (printed c d)
+    (glyph (columns c) c plain 0) (printed c d).display
 typed-wrap width height c left all current d typed wide is some few full =
     let line : List Cell = current ++ spaces (width - length current) in
     let row : List Cell = mark (width - 1) line in
@@ -202,7 +202,7 @@ typed-wrap width height c left all current d typed wide is some few full =
     ap (going_on true (row_there * width + width)) (row-cells_split width height left all current d typed)
     ∙ mark-row typed.full line (spaces rest) width typed.long long (omega arith) in
     let first : Display = at width height (joined typed.full ++ (row ++ spaces rest)) row_there 0 in
-    let next : Next width height left (all ++ row ∷ []) first (index first) =
+    let next : Next width height left (all ++ row ∷ []) first (index first).display =
     next-row width height rest left all typed.full row _ refl typed.long (length-mark (width - 1) line ∙ long) typed.below
     (row-fill width height left all current d typed) typed.split typed.even
     (plain-mark (width - 1) line (plain-printed current (width - length current) typed.printed)) typed.scrolled in
@@ -210,14 +210,14 @@ typed-wrap width height c left all current d typed wide is some few full =
     ap (λ e. leaving_rows (print c) e) typed.is
     ∙ (wrap-left width height row_there (length current) c cells is some full
     ∙ (ap (λ l. first_rows (leaving_by_index (at width height l row_there 0)) (at width height l row_there 0)) marked ∙ next.is)) in
-    let indexed : index (at width height (going_on true (row_there * width + width) cells) row_there 0)
+    let indexed : (index (at width height (going_on true (row_there * width + width) cells) row_there 0)).display
     ≡ at width height (joined next.typed.full ++ spaces next.typed.rest) (length next.typed.full) 0 =
-    ap (λ l. index (at width height l row_there 0)) marked ∙ next.typed.is in
-    let then_printed : printed c d ≡ printed c (index first) =
-    ap (printed c) typed.is
+    ap (λ l. (index (at width height l row_there 0)).display) marked ∙ next.typed.is in
+    let then_printed : (printed c d).display ≡ (printed c (index first).display).display =
+    ap (λ e. (printed c e).display) typed.is
     ∙ (put-wrapped width height row_there (length current) (length next.typed.full) (columns c) c cells (joined next.typed.full ++ spaces next.typed.rest)
     is refl some full (omega arith) indexed
-    ∙ ap (printed c) (sym next.typed.is)) in
-    subst (λ l. Typed width height (left ++ l) (all ++ row ∷ []) (glyph (columns c) c plain 0) (printed c d)) (sym out)
+    ∙ ap (λ e. (printed c e).display) (sym next.typed.is)) in
+    subst (λ l. Typed width height (left ++ l) (all ++ row ∷ []) (glyph (columns c) c plain 0) (printed c d).display) (sym out)
     (subst (λ e. Typed width height (left ++ next.out) (all ++ row ∷ []) (glyph (columns c) c plain 0) e) (sym then_printed)
-    (typed-put width height (left ++ next.out) (all ++ row ∷ []) [] (index first) next.typed c is some few (omega arith)))
+    (typed-put width height (left ++ next.out) (all ++ row ∷ []) [] (index first).display next.typed c is some few (omega arith)))

@@ -4,6 +4,7 @@ ghost use Rattle.ansi_screen.specs.Cells.{going_on, within, erased, deleted, ins
 ghost use Rattle.ansi_screen.specs.Display.{here, row_start, row_end};
 ghost use Rattle.ansi_screen.specs.Moves.{settled};
 ghost use Rattle.ansi_screen.specs.History.{with_left};
+ghost use Rattle.ansi_screen.specs.State.{changed, stepped};
 ghost use Rattle.ansi_screen.specs.Text.{first_rows, printed_rows};
 ghost use Rattle.ansi_screen.specs.Edits.{with_cells, space, erased_cells, row_goes_on, row_going_on, row_above_ended, erases_all, erases_from_row, erases_first, erased_part, erased_display, erased_line, erased_characters, deleted_characters, inserted_characters, rows_up, rows_down, swapped, scrolled_up, scrolled_down, inserted_lines, deleted_lines, index, reverse_index};
 
@@ -17,7 +18,7 @@ const ALL: u16 = 2;
 impl Display {
     /// Where the first cell of the cursor's row is erased, the row above no longer goes on in it.
     fn end_row_above(&mut self, is_begun_anew: bool)
-        ensures { self.new ≡ row_above_ended is_begun_anew self.old }
+        ensures { self.new ≡ changed (row_above_ended is_begun_anew) self.old }
     {
         let row = self.cursor.row;
         if is_begun_anew && 0 < row {
@@ -28,7 +29,7 @@ impl Display {
     /// Whether ED erases the first cell of the cursor's row, and leaves the row above.
     #[tactic(auto, unfolding(crate::specs::Edits::erases_from_row))]
     fn erases_from_row(&self, kind: u16) -> bool
-        ensures { result ≡ erases_from_row kind self.now }
+        ensures { result ≡ erases_from_row kind self.now.display }
     {
         kind == 0 && self.cursor.column == 0
     }
@@ -36,15 +37,15 @@ impl Display {
     /// Whether ED erases all of the screen, from its first cell on.
     #[tactic(auto, unfolding(crate::specs::Edits::erases_all))]
     fn erases_all(&self, kind: u16) -> bool
-        ensures { result ≡ erases_all kind self.now }
+        ensures { result ≡ erases_all kind self.now.display }
     {
         kind == ALL || (kind == 0 && (self.cursor.row == 0 && self.cursor.column == 0))
     }
 
     /// ED
     pub(super) fn erase_display(&mut self, kind: u16)
-        requires { self.old.cursor.column < self.old.width }
-        ensures { self.new ≡ erased_display kind self.old }
+        requires { self.old.display.cursor.column < self.old.display.width }
+        ensures { self.new ≡ stepped (erased_display kind) self.old }
     {
         if self.erases_all(kind) && !self.is_alternate {
             self.hand_out_printed();
@@ -54,9 +55,9 @@ impl Display {
 
     /// The same, where the rows that are kept have left.
     fn erase_in_place(&mut self, kind: u16)
-        requires { self.old.cursor.column < self.old.width }
-        ensures { self.new ≡ erased_part kind 0 (length self.old.cells)
-            (row_above_ended (erases_from_row kind self.old) self.old) }
+        requires { self.old.display.cursor.column < self.old.display.width }
+        ensures { self.new ≡ changed (λ d. erased_part kind 0 (length d.cells)
+            (row_above_ended (erases_from_row kind d) d)) self.old }
     {
         let is_begun_anew = self.erases_from_row(kind);
         self.end_row_above(is_begun_anew);
@@ -64,12 +65,13 @@ impl Display {
     }
 
     /// The rows up to the last in which something was printed leave, where some are kept: all is to be erased then.
+    #[tactic(auto, using(crate::proofs::LeftLemmas::left_none))]
     pub(super) fn hand_out_printed(&mut self)
         ensures left { self.new ≡ record self.old {
-          cells = self.new.cells;
-          history = with_left (printed_rows self.old) self.old.history;
+          display = with_cells self.new.display.cells self.old.display;
+          history = with_left (printed_rows self.old.display) self.old.history;
         } }
-        ensures length { length self.new.cells ≡ length self.old.cells }
+        ensures length { length self.new.display.cells ≡ length self.old.display.cells }
     {
         if self.history.is_some() {
             let count = self.used_rows(LeftOut::Unprinted);
@@ -79,12 +81,12 @@ impl Display {
 
     /// The first rows leave, and are kept; blank ones take their places.
     fn hand_out(&mut self, count: usize)
-        requires { count ≤ self.old.height }
+        requires { count ≤ self.old.display.height }
         ensures left { self.new ≡ record self.old {
-          cells = self.new.cells;
-          history = with_left (first_rows count self.old) self.old.history;
+          display = with_cells self.new.display.cells self.old.display;
+          history = with_left (first_rows count self.old.display) self.old.history;
         } }
-        ensures length { length self.new.cells ≡ length self.old.cells }
+        ensures length { length self.new.display.cells ≡ length self.old.display.cells }
     {
         let style = self.cursor.style;
         // (for the proof: the cells fill the rows, now and after the change below)
@@ -96,7 +98,7 @@ impl Display {
 
     /// The cells of the main and of the alternate screen change places; all else stays.
     pub(crate) fn swap_screens(&mut self)
-        ensures { self.new ≡ swapped self.old }
+        ensures { self.new ≡ changed swapped self.old }
     {
         self.damage.note_all();
         self.hidden.swap(&mut self.cells);
@@ -105,8 +107,8 @@ impl Display {
     /// The same, where the row above ends.
     #[tactic(auto, unfolding(crate::specs::Edits::erased_part))]
     fn erase_part_of_display(&mut self, kind: u16)
-        requires { self.old.cursor.column < self.old.width }
-        ensures { self.new ≡ erased_part kind 0 (length self.old.cells) self.old }
+        requires { self.old.display.cursor.column < self.old.display.width }
+        ensures { self.new ≡ changed (λ d. erased_part kind 0 (length d.cells) d) self.old }
     {
         match kind {
             0 => self.erase_from_cursor(),
@@ -117,8 +119,8 @@ impl Display {
 
     /// From the cursor to the end of the screen.
     fn erase_from_cursor(&mut self)
-        requires { self.old.cursor.column < self.old.width }
-        ensures { self.new ≡ erased_cells (here self.old) (length self.old.cells) self.old }
+        requires { self.old.display.cursor.column < self.old.display.width }
+        ensures { self.new ≡ changed (λ d. erased_cells (here d) (length d.cells) d) self.old }
     {
         let (row, column) = (self.cursor.row, self.cursor.column);
         // (for the proof as well: no row begins with a right half)
@@ -130,8 +132,8 @@ impl Display {
 
     /// From the beginning of the screen to the cursor, and there.
     fn erase_to_cursor(&mut self)
-        requires { self.old.cursor.column < self.old.width }
-        ensures { self.new ≡ erased_cells 0 (here self.old + 1) self.old }
+        requires { self.old.display.cursor.column < self.old.display.width }
+        ensures { self.new ≡ changed (λ d. erased_cells 0 (here d + 1) d) self.old }
     {
         let (row, column) = (self.cursor.row, self.cursor.column);
         // (for the proof: no row begins with a right half)
@@ -142,7 +144,7 @@ impl Display {
 
     /// All of the screen.
     fn erase_all(&mut self)
-        ensures { self.new ≡ erased_cells 0 (length self.old.cells) self.old }
+        ensures { self.new ≡ changed (λ d. erased_cells 0 (length d.cells) d) self.old }
     {
         let style = self.cursor.style;
         // (for the proof: the cells fill the rows, now and after the change below)
@@ -156,9 +158,9 @@ impl Display {
     /// The rows from `first` up to `last` are blank.
     fn clear_rows(&mut self, first: usize, last: usize)
         requires order { first ≤ last }
-        requires within { last ≤ self.old.height }
-        ensures { self.new ≡ with_cells (within (first * self.old.width) (last * self.old.width)
-            (erased (space self.old)) self.old.cells) self.old }
+        requires within { last ≤ self.old.display.height }
+        ensures { self.new ≡ changed (λ d.
+            with_cells (within (first * d.width) (last * d.width) (erased (space d)) d.cells) d) self.old }
     {
         let style = self.cursor.style;
         // (for the proof: the cells fill the rows, now and after the change below)
@@ -170,10 +172,10 @@ impl Display {
 
     /// From a column of the cursor's row up to another.
     fn erase_columns(&mut self, start: usize, end: usize)
-        requires start { start < self.old.width }
+        requires start { start < self.old.display.width }
         requires order { start ≤ end }
-        requires within { end ≤ self.old.width }
-        ensures { self.new ≡ erased_cells (row_start self.old + start) (row_start self.old + end) self.old }
+        requires within { end ≤ self.old.display.width }
+        ensures { self.new ≡ changed (λ d. erased_cells (row_start d + start) (row_start d + end) d) self.old }
     {
         let row = self.cursor.row;
         let style = self.cursor.style;
@@ -188,7 +190,7 @@ impl Display {
     /// Whether EL erases the first cell of the cursor's row.
     #[tactic(auto, unfolding(crate::specs::Edits::erases_first))]
     fn erases_first(&self, kind: u16) -> bool
-        ensures { result ≡ erases_first kind self.now }
+        ensures { result ≡ erases_first kind self.now.display }
     {
         kind != 0 || self.cursor.column == 0
     }
@@ -196,8 +198,8 @@ impl Display {
     /// EL
     #[tactic(auto, unfolding(crate::specs::Edits::erased_line))]
     pub(super) fn erase_line(&mut self, kind: u16)
-        requires { self.old.cursor.column < self.old.width }
-        ensures { self.new ≡ erased_line kind self.old }
+        requires { self.old.display.cursor.column < self.old.display.width }
+        ensures { self.new ≡ changed (erased_line kind) self.old }
     {
         let erases_first = self.erases_first(kind);
         self.end_row_above(erases_first);
@@ -207,8 +209,8 @@ impl Display {
     /// The same, where the row above ends.
     #[tactic(auto, unfolding(crate::specs::Edits::erased_part))]
     fn erase_part_of_row(&mut self, kind: u16)
-        requires { self.old.cursor.column < self.old.width }
-        ensures { self.new ≡ erased_part kind (row_start self.old) (row_end self.old) self.old }
+        requires { self.old.display.cursor.column < self.old.display.width }
+        ensures { self.new ≡ changed (λ d. erased_part kind (row_start d) (row_end d) d) self.old }
     {
         let column = self.cursor.column;
         let width = self.cells.width();
@@ -222,8 +224,8 @@ impl Display {
     /// ECH
     #[tactic(auto, unfolding(crate::specs::Edits::erased_characters))]
     pub(super) fn erase_characters(&mut self, count: u16)
-        requires { self.old.cursor.column < self.old.width }
-        ensures { self.new ≡ erased_characters count self.old }
+        requires { self.old.display.cursor.column < self.old.display.width }
+        ensures { self.new ≡ changed (erased_characters count) self.old }
     {
         let column = self.cursor.column;
         let end = self.cells.width().min(column + usize::from(count));
@@ -232,14 +234,14 @@ impl Display {
 
     /// Whether the cursor's row goes on in the next.
     pub(super) fn goes_on(&self) -> bool
-        ensures { result ≡ row_goes_on self.now }
+        ensures { result ≡ row_goes_on self.now.display }
     {
         goes_on(self.row(self.cursor.row))
     }
 
     /// Says whether the cursor's row goes on in the next.
     pub(super) fn set_goes_on(&mut self, on: bool)
-        ensures { self.new ≡ row_going_on on self.old }
+        ensures { self.new ≡ changed (row_going_on on) self.old }
     {
         let row = self.cursor.row;
         self.set_row_goes_on(row, on);
@@ -247,8 +249,8 @@ impl Display {
 
     /// Says whether a row goes on in the next. Mostly it is so already.
     fn set_row_goes_on(&mut self, row: usize, on: bool)
-        requires { row < self.old.height }
-        ensures { self.new ≡ with_cells (going_on on (row * self.old.width + self.old.width) self.old.cells) self.old }
+        requires { row < self.old.display.height }
+        ensures { self.new ≡ changed (λ d. with_cells (going_on on (row * d.width + d.width) d.cells) d) self.old }
     {
         // (for the proof as well: no row begins with a right half)
         let width = self.cells.width();
@@ -260,8 +262,8 @@ impl Display {
     /// DCH
     #[tactic(auto, unfolding(crate::specs::Edits::deleted_characters))]
     pub(super) fn delete_characters(&mut self, count: u16)
-        requires { self.old.cursor.column < self.old.width }
-        ensures { self.new ≡ deleted_characters count self.old }
+        requires { self.old.display.cursor.column < self.old.display.width }
+        ensures { self.new ≡ changed (deleted_characters count) self.old }
     {
         self.set_goes_on(false);
         self.delete_cells(usize::from(count));
@@ -269,9 +271,9 @@ impl Display {
 
     /// The same, where the row ends.
     fn delete_cells(&mut self, count: usize)
-        requires { self.old.cursor.column < self.old.width }
-        ensures { self.new ≡ with_cells (deleted count (here self.old) (row_end self.old) (space self.old)
-            self.old.cells) self.old }
+        requires { self.old.display.cursor.column < self.old.display.width }
+        ensures { self.new ≡ changed (λ d. with_cells (deleted count (here d) (row_end d) (space d) d.cells) d)
+            self.old }
     {
         let (row, column) = (self.cursor.row, self.cursor.column);
         let style = self.cursor.style;
@@ -286,10 +288,10 @@ impl Display {
     /// ICH
     #[tactic(auto, unfolding(crate::specs::Edits::inserted_characters))]
     pub(super) fn insert_characters(&mut self, count: u16)
-        requires { self.old.cursor.column < self.old.width }
-        ensures cells { self.new ≡ inserted_characters count self.old }
-        ensures width { self.new.width ≡ self.old.width }
-        ensures cursor { self.new.cursor ≡ self.old.cursor }
+        requires { self.old.display.cursor.column < self.old.display.width }
+        ensures cells { self.new ≡ changed (inserted_characters count) self.old }
+        ensures width { self.new.display.width ≡ self.old.display.width }
+        ensures cursor { self.new.display.cursor ≡ self.old.display.cursor }
     {
         self.set_goes_on(false);
         self.insert_cells(usize::from(count));
@@ -297,9 +299,9 @@ impl Display {
 
     /// The same, where the row ends.
     pub(super) fn insert_cells(&mut self, count: usize)
-        requires { self.old.cursor.column < self.old.width }
-        ensures { self.new ≡ with_cells (inserted count (here self.old) (row_end self.old) (space self.old)
-            self.old.cells) self.old }
+        requires { self.old.display.cursor.column < self.old.display.width }
+        ensures { self.new ≡ changed (λ d. with_cells (inserted count (here d) (row_end d) (space d) d.cells) d)
+            self.old }
     {
         let (row, column) = (self.cursor.row, self.cursor.column);
         let style = self.cursor.style;
@@ -315,8 +317,8 @@ impl Display {
     #[tactic(auto, unfolding(crate::specs::Edits::rows_up))]
     fn rows_up(&mut self, count: u16, first: usize, last: usize)
         requires order { first ≤ last }
-        requires within { last ≤ self.old.height }
-        ensures { self.new ≡ rows_up count first last self.old }
+        requires within { last ≤ self.old.display.height }
+        ensures { self.new ≡ changed (rows_up count first last) self.old }
     {
         let style = self.cursor.style;
         // (for the proof: the cells fill the rows, now and after the change below)
@@ -330,8 +332,8 @@ impl Display {
     #[tactic(auto, unfolding(crate::specs::Edits::rows_down))]
     fn rows_down(&mut self, count: u16, first: usize, last: usize)
         requires order { first ≤ last }
-        requires within { last ≤ self.old.height }
-        ensures { self.new ≡ rows_down count first last self.old }
+        requires within { last ≤ self.old.display.height }
+        ensures { self.new ≡ changed (rows_down count first last) self.old }
     {
         let style = self.cursor.style;
         // (for the proof: the cells fill the rows, now and after the change below)
@@ -342,9 +344,9 @@ impl Display {
     }
 
     /// SU
-    #[tactic(auto, unfolding(crate::specs::Edits::kept_by_scroll))]
+    #[tactic(auto, unfolding(crate::specs::Edits::left_by_scroll))]
     pub(super) fn scroll_up(&mut self, count: u16)
-        ensures { self.new ≡ scrolled_up count self.old }
+        ensures { self.new ≡ stepped (scrolled_up count) self.old }
     {
         let (top, bottom) = (self.top, self.bottom);
         if top == 0 && !self.is_alternate {
@@ -357,9 +359,10 @@ impl Display {
     /// The rows within the margins move up, and those that leave at the top are kept.
     #[tactic(auto, unfolding(crate::specs::Edits::rows_up))]
     fn rows_out(&mut self, count: u16)
-        ensures { self.new ≡ rows_up count 0 self.old.bottom (record self.old {
-          history = with_left (first_rows (min count self.old.bottom) self.old) self.old.history;
-        }) }
+        ensures { self.new ≡ record self.old {
+          display = rows_up count 0 self.old.display.bottom self.old.display;
+          history = with_left (first_rows (min count self.old.display.bottom) self.old.display) self.old.history;
+        } }
     {
         let style = self.cursor.style;
         let bottom = self.bottom;
@@ -373,7 +376,7 @@ impl Display {
 
     /// SD
     pub(super) fn scroll_down(&mut self, count: u16)
-        ensures { self.new ≡ scrolled_down count self.old }
+        ensures { self.new ≡ changed (scrolled_down count) self.old }
     {
         let (top, bottom) = (self.top, self.bottom);
         self.rows_down(count, top, bottom);
@@ -382,7 +385,7 @@ impl Display {
     /// IL
     #[tactic(auto, unfolding(crate::specs::Edits::inserted_lines))]
     pub(super) fn insert_lines(&mut self, count: u16)
-        ensures { self.new ≡ inserted_lines count self.old }
+        ensures { self.new ≡ changed (inserted_lines count) self.old }
     {
         let (row, bottom) = (self.cursor.row, self.bottom);
         if self.top <= row && row < bottom {
@@ -394,7 +397,7 @@ impl Display {
     /// DL
     #[tactic(auto, unfolding(crate::specs::Edits::deleted_lines))]
     pub(super) fn delete_lines(&mut self, count: u16)
-        ensures { self.new ≡ deleted_lines count self.old }
+        ensures { self.new ≡ changed (deleted_lines count) self.old }
     {
         let (row, bottom) = (self.cursor.row, self.bottom);
         if self.top <= row && row < bottom {
@@ -406,7 +409,7 @@ impl Display {
     /// IND
     #[tactic(auto, unfolding(crate::specs::Edits::index))]
     pub(super) fn index(&mut self)
-        ensures { self.new ≡ index self.old }
+        ensures { self.new ≡ stepped index self.old }
     {
         let next = self.cursor.row + 1;
         if next == self.bottom {
@@ -419,7 +422,7 @@ impl Display {
     /// RI
     #[tactic(auto, unfolding(crate::specs::Edits::reverse_index))]
     pub(super) fn reverse_index(&mut self)
-        ensures { self.new ≡ reverse_index self.old }
+        ensures { self.new ≡ changed reverse_index self.old }
     {
         let row = self.cursor.row;
         if row == self.top {

@@ -1,6 +1,7 @@
 //! What can have changed of a display, and one that becomes as another is.
 ghost use Rattle.std.specs.Prelude.{◌≡◌, ◌<◌, ◌≤◌, ◌⊎◌, ℕ, false};
-ghost use Rattle.ansi_screen.specs.Display.{IsSized, picture, forgotten, row_cells, shown_cells};
+ghost use Rattle.ansi_screen.specs.Display.{picture, row_cells};
+ghost use Rattle.ansi_screen.specs.State.{as_shown, shown_cells};
 ghost use Rattle.ansi_screen.specs.Following.{following, IsShownOf, HasSizeOf, with_cells_of, with_cursor_of, with_frame_of};
 
 use crate::display::Display;
@@ -10,7 +11,7 @@ impl Display {
 
     /// Forgets what can have changed: as it is now, it counts as shown.
     pub(crate) fn forget(&mut self)
-        ensures { self.new ≡ forgotten self.old }
+        ensures { self.new ≡ as_shown self.old }
     {
         let places = (self.saved, self.hidden_saved);
         let margins = (self.top, self.bottom);
@@ -22,9 +23,9 @@ impl Display {
     /// The rows outside which no cell can have changed: from the first answer up to the second.
     pub(crate) fn changed_rows(&self) -> (usize, usize)
         ensures order { result.0 ≤ result.1 }
-        ensures within { result.1 ≤ self.now.height }
-        ensures kept { (row : ℕ) → row < self.now.height → (row < result.0) ⊎ (result.1 ≤ row)
-            → row_cells row self.now ≡ shown_cells row self.now }
+        ensures within { result.1 ≤ self.now.display.height }
+        ensures kept { (row : ℕ) → row < self.now.display.height → (row < result.0) ⊎ (result.1 ≤ row)
+            → row_cells row self.now.display ≡ shown_cells row self.now }
     {
         // (for the proof: the cells fill the rows)
         let _ = self.cells.width();
@@ -33,10 +34,11 @@ impl Display {
 
     /// The columns of a row that can have changed: from the first answer up to the second.
     pub(crate) fn changed(&self, row: usize) -> (usize, usize)
-        requires { row < self.now.height }
+        requires { row < self.now.display.height }
         ensures order { result.0 ≤ result.1 }
-        ensures within { result.1 ≤ self.now.width }
-        ensures kept { KeepsColumns result.0 result.1 (shown_cells row self.now) (row_cells row self.now) }
+        ensures within { result.1 ≤ self.now.display.width }
+        ensures kept { KeepsColumns result.0 result.1 (shown_cells row self.now)
+            (row_cells row self.now.display) }
     {
         let width = self.cells.width();
         self.damage.columns(row, width)
@@ -44,7 +46,7 @@ impl Display {
 
     /// Whether margins, tabs, what is saved or the alternate screen can have changed.
     pub(crate) fn is_framed(&self) -> bool
-        ensures { result ≡ false → (picture self.now).frame ≡ self.now.shown.frame }
+        ensures { result ≡ false → (picture self.now.display).frame ≡ self.now.shown.frame }
     {
         self.damage.is_framed()
     }
@@ -63,7 +65,7 @@ impl Display {
 
     /// Becomes as another one of its size is.
     pub(crate) fn copy_from(&mut self, other: &Display)
-        requires { HasSizeOf other.now self.old }
+        requires { HasSizeOf other.now.display self.old.display }
         ensures { self.new ≡ following other.now self.old }
     {
         self.copy_all(other);
@@ -71,10 +73,14 @@ impl Display {
         self.forget();
     }
 
-    /// The cells that can have changed, the cursor, modes and links become as those of another one are.
+    /// The cells that can have changed, the cursor, modes and links, and what REP repeats, become as those of another
+    /// one are.
     fn copy_changed(&mut self, other: &Display)
         requires { IsShownOf other.now self.old }
-        ensures shown { self.new ≡ with_cells_of other.now self.old }
+        ensures shown { self.new ≡ record self.old {
+          display = with_cells_of other.now.display self.old.display;
+          last = other.now.last;
+        } }
     {
         self.damage.note_all();
         self.cells.copy_changed(&other.cells, &other.damage);
@@ -83,10 +89,13 @@ impl Display {
         self.copy_cursor(other);
     }
 
-    /// All cells, the cursor, modes and links become as those of another one are.
+    /// All cells, the cursor, modes and links, and what REP repeats, become as those of another one are.
     fn copy_all(&mut self, other: &Display)
-        requires { HasSizeOf other.now self.old }
-        ensures shown { self.new ≡ with_cells_of other.now self.old }
+        requires { HasSizeOf other.now.display self.old.display }
+        ensures shown { self.new ≡ record self.old {
+          display = with_cells_of other.now.display self.old.display;
+          last = other.now.last;
+        } }
     {
         self.damage.note_all();
         self.cells.copy_all(&other.cells);
@@ -95,11 +104,14 @@ impl Display {
         self.copy_cursor(other);
     }
 
-    /// The cursor, modes and links become as those of another one are.
+    /// The cursor, modes and links, and what REP repeats, become as those of another one are.
     fn copy_cursor(&mut self, other: &Display)
-        requires width { self.old.width ≡ other.now.width }
-        requires height { self.old.height ≡ other.now.height }
-        ensures { self.new ≡ with_cursor_of other.now self.old }
+        requires width { self.old.display.width ≡ other.now.display.width }
+        requires height { self.old.display.height ≡ other.now.display.height }
+        ensures { self.new ≡ record self.old {
+          display = with_cursor_of other.now.display self.old.display;
+          last = other.now.last;
+        } }
     {
         self.cursor = other.cursor;
         self.wraps = other.wraps;
@@ -107,13 +119,14 @@ impl Display {
         self.is_visible = other.is_visible;
         self.links = other.links;
         self.link = other.link;
+        self.printed = other.printed;
     }
 
     /// Margins, tabs, what is saved and the alternate screen with what it covers become as those of another one are.
     fn copy_frame(&mut self, other: &Display)
-        requires width { self.old.width ≡ other.now.width }
-        requires height { self.old.height ≡ other.now.height }
-        ensures { self.new ≡ with_frame_of other.now self.old }
+        requires width { self.old.display.width ≡ other.now.display.width }
+        requires height { self.old.display.height ≡ other.now.display.height }
+        ensures { self.new ≡ record self.old { display = with_frame_of other.now.display self.old.display } }
     {
         self.damage.note_all();
         self.saved = other.saved;

@@ -1,5 +1,6 @@
 //! Links (OSC 8).
 ghost use Rattle.std.specs.Prelude.{◌≡◌, map};
+ghost use Rattle.ansi_screen.specs.State.{changed};
 ghost use Rattle.ansi_screen.specs.Links.{is_link, begins_link, links_after, link_after, commanded};
 
 use super::Display;
@@ -30,7 +31,7 @@ fn begins_link(parts: &[&[u8]]) -> bool
 impl Display {
     /// The number of the link in force; 0, where none is.
     pub(crate) fn link(&self) -> u32
-        ensures { result ≡ self.now.link }
+        ensures { result ≡ self.now.display.link }
     {
         self.link
     }
@@ -38,7 +39,7 @@ impl Display {
     /// An operating system command: OSC 8 begins a link, where there is a number for it, or ends one.
     #[tactic(auto, unfolding(crate::specs::Links::links_after, crate::specs::Links::link_after))]
     pub(crate) fn command(&mut self, parts: &[&[u8]])
-        ensures { self.new ≡ commanded (map (λ part. part.now) parts.now) self.old }
+        ensures { self.new ≡ changed (commanded (map (λ part. part.now) parts.now)) self.old }
     {
         if begins_link(parts) && self.links < MAX_LINKS {
             self.links += 1;

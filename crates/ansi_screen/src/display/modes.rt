@@ -2,6 +2,7 @@
 ghost use Rattle.std.specs.Prelude.{◌≡◌, ◌<◌};
 ghost use Rattle.anstyle_parse.specs.Views.Params.{groups_shown};
 ghost use Rattle.ansi_screen.specs.Display.{fresh};
+ghost use Rattle.ansi_screen.specs.State.{changed, stepped};
 ghost use Rattle.ansi_screen.specs.Edits.{renewed};
 ghost use Rattle.ansi_screen.specs.Modes.{with_style, shifted, with_charset, saving, into_margins, restored, with_origin, with_margins, to_alternate, to_main, with_alternate, with_private_mode, with_mode, with_modes, softly_reset, first_field};
 
@@ -24,14 +25,14 @@ pub(super) fn first_field(group: &[u16]) -> u16
 impl Display {
     /// SGR
     pub(super) fn select_style(&mut self, params: &Params)
-        ensures { self.new ≡ with_style (groups_shown params.now) self.old }
+        ensures { self.new ≡ changed (with_style (groups_shown params.now)) self.old }
     {
         self.cursor.style.select(params);
     }
 
     /// SO, SI
     pub(super) fn shift(&mut self, on: bool)
-        ensures { self.new ≡ shifted on self.old }
+        ensures { self.new ≡ changed (shifted on) self.old }
     {
         self.cursor.charsets.uses_g1 = on;
     }
@@ -39,7 +40,7 @@ impl Display {
     /// G0 or G1 is the line drawing set, or letters.
     #[tactic(auto, unfolding(crate::specs::Modes::with_charset))]
     pub(super) fn set_charset(&mut self, mark: u8, final_byte: u8)
-        ensures { self.new ≡ with_charset mark final_byte self.old }
+        ensures { self.new ≡ changed (with_charset mark final_byte) self.old }
     {
         let draws = final_byte == b'0';
         match mark {
@@ -51,7 +52,7 @@ impl Display {
 
     /// DECSC
     pub(super) fn save(&mut self)
-        ensures { self.new ≡ saving self.old }
+        ensures { self.new ≡ changed saving self.old }
     {
         self.damage.note_frame();
         self.saved = self.cursor;
@@ -60,7 +61,7 @@ impl Display {
     /// DECRC
     #[tactic(auto, unfolding(crate::specs::Modes::restored))]
     pub(super) fn restore(&mut self)
-        ensures { self.new ≡ restored self.old }
+        ensures { self.new ≡ changed restored self.old }
     {
         self.cursor = self.saved;
         if self.cursor.is_relative {
@@ -72,7 +73,7 @@ impl Display {
     /// DECOM
     #[tactic(auto, unfolding(crate::specs::Modes::with_origin))]
     pub(super) fn set_origin(&mut self, on: bool)
-        ensures { self.new ≡ with_origin on self.old }
+        ensures { self.new ≡ changed (with_origin on) self.old }
     {
         self.cursor.is_relative = on;
         self.to_position(0, 0);
@@ -81,7 +82,7 @@ impl Display {
     /// DECSTBM
     #[tactic(auto, unfolding(crate::specs::Modes::with_margins))]
     pub(super) fn set_margins(&mut self, first: u16, last: u16)
-        ensures { self.new ≡ with_margins first last self.old }
+        ensures { self.new ≡ changed (with_margins first last) self.old }
     {
         let first = usize::from(first).max(1);
         let last = usize::from(last);
@@ -101,7 +102,7 @@ impl Display {
     /// 1049 set
     #[tactic(auto, unfolding(crate::specs::Modes::to_alternate))]
     fn show_alternate(&mut self)
-        ensures { self.new ≡ to_alternate self.old }
+        ensures { self.new ≡ changed to_alternate self.old }
     {
         if !self.is_alternate {
             let style = self.cursor.style;
@@ -117,7 +118,7 @@ impl Display {
     /// 1049 reset, but for the cursor
     #[tactic(auto, unfolding(crate::specs::Modes::to_main))]
     fn show_main(&mut self)
-        ensures { self.new ≡ to_main self.old }
+        ensures { self.new ≡ changed to_main self.old }
     {
         if self.is_alternate {
             self.damage.note_all();
@@ -132,7 +133,7 @@ impl Display {
     /// 1049
     #[tactic(auto, unfolding(crate::specs::Modes::with_alternate))]
     fn set_alternate(&mut self, on: bool)
-        ensures { self.new ≡ with_alternate on self.old }
+        ensures { self.new ≡ changed (with_alternate on) self.old }
     {
         if on {
             self.show_alternate();
@@ -144,7 +145,7 @@ impl Display {
 
     #[tactic(auto, unfolding(crate::specs::Modes::with_private_mode))]
     fn set_private_mode(&mut self, on: bool, mode: u16)
-        ensures { self.new ≡ with_private_mode on mode self.old }
+        ensures { self.new ≡ changed (with_private_mode on mode) self.old }
     {
         match mode {
             6 => self.set_origin(on),
@@ -157,7 +158,7 @@ impl Display {
 
     #[tactic(auto, unfolding(crate::specs::Modes::with_mode))]
     fn set_mode(&mut self, on: bool, mode: u16)
-        ensures { self.new ≡ with_mode on mode self.old }
+        ensures { self.new ≡ changed (with_mode on mode) self.old }
     {
         if mode == 4 {
             self.inserts = on;
@@ -166,7 +167,7 @@ impl Display {
 
     /// SM, RM
     pub(super) fn set_modes(&mut self, on: bool, params: &Params)
-        ensures { self.new ≡ with_modes (with_mode on) (groups_shown params.now) self.old }
+        ensures { self.new ≡ changed (with_modes (with_mode on) (groups_shown params.now)) self.old }
     {
         for group in params {
             self.set_mode(on, first_field(group));
@@ -175,7 +176,7 @@ impl Display {
 
     /// DECSET, DECRST
     pub(super) fn set_private_modes(&mut self, on: bool, params: &Params)
-        ensures { self.new ≡ with_modes (with_private_mode on) (groups_shown params.now) self.old }
+        ensures { self.new ≡ changed (with_modes (with_private_mode on) (groups_shown params.now)) self.old }
     {
         for group in params {
             self.set_private_mode(on, first_field(group));
@@ -185,7 +186,7 @@ impl Display {
     /// DECSTR
     #[tactic(auto, unfolding(crate::specs::Modes::softly_reset))]
     pub(super) fn soft_reset(&mut self)
-        ensures { self.new ≡ softly_reset self.old }
+        ensures { self.new ≡ changed softly_reset self.old }
     {
         self.damage.note_frame();
         self.cursor.style = Style::default();
@@ -201,7 +202,7 @@ impl Display {
 
     /// RIS
     pub(super) fn reset(&mut self)
-        ensures { self.new ≡ renewed self.old }
+        ensures { self.new ≡ stepped renewed self.old }
     {
         if self.is_alternate {
             self.swap_screens();
@@ -210,12 +211,9 @@ impl Display {
         self.renew();
     }
 
-    /// All is as on a new screen, but for what was shown of it and what it keeps.
+    /// The display is a new one.
     fn renew(&mut self)
-        ensures { self.new ≡ record (fresh self.old.width self.old.height) {
-          shown = self.old.shown;
-          history = self.old.history;
-        } }
+        ensures { self.new ≡ changed (λ d. fresh d.width d.height) self.old }
     {
         self.damage.note_all();
         self.cells.fill(Style::default());

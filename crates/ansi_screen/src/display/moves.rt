@@ -1,6 +1,7 @@
 //! Moves of the cursor, and tabs.
 ghost use Rattle.std.specs.Prelude.{◌≡◌, ◌+◌, ◌-◌, ◌<◌, min};
 ghost use Rattle.std.specs.Fn.{iterate};
+ghost use Rattle.ansi_screen.specs.State.{changed};
 ghost use Rattle.ansi_screen.specs.Moves.{to_row, to_column, settled, up, down, to_line, line_of, to_position, tabbed, tabbed_back, with_stop, cleared_stops, column_of};
 
 use super::Display;
@@ -9,23 +10,23 @@ use crate::tabs::{columns_before_stop, stop_before};
 impl Display {
     /// To a row, at most the last.
     pub(super) fn to_row(&mut self, row: usize)
-        ensures { self.new ≡ to_row row self.old }
+        ensures { self.new ≡ changed (to_row row) self.old }
     {
         self.cursor.row = row.min(self.cells.height() - 1);
     }
 
     /// To a column, at most the last.
     pub(super) fn to_column(&mut self, column: usize)
-        ensures column { self.new ≡ to_column column self.old }
-        ensures settled { self.new.cursor.column < self.new.width }
+        ensures column { self.new ≡ changed (to_column column) self.old }
+        ensures settled { self.new.display.cursor.column < self.new.display.width }
     {
         self.cursor.column = column.min(self.cells.width() - 1);
     }
 
     /// No wrap is pending any more.
     pub(super) fn settle(&mut self)
-        ensures settled { self.new ≡ settled self.old }
-        ensures column { self.new.cursor.column < self.new.width }
+        ensures settled { self.new ≡ changed settled self.old }
+        ensures column { self.new.display.cursor.column < self.new.display.width }
     {
         let column = self.cursor.column;
         self.to_column(column);
@@ -33,7 +34,7 @@ impl Display {
 
     /// CUU
     pub(super) fn up(&mut self, count: u16)
-        ensures { self.new ≡ up count self.old }
+        ensures { self.new ≡ changed (up count) self.old }
     {
         let row = self.cursor.row;
         let target = row.saturating_sub(usize::from(count));
@@ -47,7 +48,7 @@ impl Display {
 
     /// CUD
     pub(super) fn down(&mut self, count: u16)
-        ensures { self.new ≡ down count self.old }
+        ensures { self.new ≡ changed (down count) self.old }
     {
         let row = self.cursor.row;
         let target = row + usize::from(count);
@@ -61,7 +62,7 @@ impl Display {
 
     /// CUF
     pub(super) fn forward(&mut self, count: u16)
-        ensures { self.new ≡ to_column (self.old.cursor.column + count) self.old }
+        ensures { self.new ≡ changed (to_column (self.old.display.cursor.column + count)) self.old }
     {
         let column = self.cursor.column + usize::from(count);
         self.to_column(column);
@@ -69,7 +70,7 @@ impl Display {
 
     /// CUB
     pub(super) fn back(&mut self, count: u16)
-        ensures { self.new ≡ to_column (self.old.cursor.column - count) self.old }
+        ensures { self.new ≡ changed (to_column (self.old.display.cursor.column - count)) self.old }
     {
         let column = self.cursor.column.saturating_sub(usize::from(count));
         self.to_column(column);
@@ -77,7 +78,7 @@ impl Display {
 
     /// VPA
     pub(super) fn to_line(&mut self, line: u16)
-        ensures { self.new ≡ to_line line self.old }
+        ensures { self.new ≡ changed (to_line line) self.old }
     {
         let line = usize::from(line);
         if self.cursor.is_relative {
@@ -90,7 +91,7 @@ impl Display {
 
     /// VPR
     pub(super) fn lines_forward(&mut self, count: u16)
-        ensures { self.new ≡ to_line (line_of self.old + count) self.old }
+        ensures { self.new ≡ changed (λ d. to_line (line_of d + count) d) self.old }
     {
         let target = self.cursor.row + usize::from(count);
         if self.cursor.is_relative {
@@ -105,7 +106,7 @@ impl Display {
 
     /// CUP
     pub(super) fn to_position(&mut self, line: u16, column: u16)
-        ensures { self.new ≡ to_position line column self.old }
+        ensures { self.new ≡ changed (to_position line column) self.old }
     {
         self.to_line(line);
         self.to_column(usize::from(column));
@@ -114,7 +115,7 @@ impl Display {
     /// HT
     #[tactic(auto, unfolding(crate::specs::Moves::tabbed))]
     pub(super) fn tab(&mut self)
-        ensures { self.new ≡ tabbed self.old }
+        ensures { self.new ≡ changed tabbed self.old }
     {
         let column = self.cursor.column;
         if column < self.cells.width() {
@@ -126,7 +127,7 @@ impl Display {
 
     /// CHT
     pub(super) fn tab_times(&mut self, count: u16)
-        ensures { self.new ≡ iterate tabbed (min count self.old.width) self.old }
+        ensures { self.new ≡ changed (iterate tabbed (min count self.old.display.width)) self.old }
     {
         let count = usize::from(count).min(self.cells.width());
         for _done in 0..count {
@@ -137,7 +138,7 @@ impl Display {
     /// To the last stop before the cursor, or to the first column.
     #[tactic(auto, unfolding(crate::specs::Moves::tabbed_back))]
     fn tab_back_once(&mut self)
-        ensures { self.new ≡ tabbed_back self.old }
+        ensures { self.new ≡ changed tabbed_back self.old }
     {
         let column = stop_before(self.tabs.as_slice(), self.cursor.column);
         self.to_column(column);
@@ -145,7 +146,7 @@ impl Display {
 
     /// CBT
     pub(super) fn tab_back(&mut self, count: u16)
-        ensures { self.new ≡ iterate tabbed_back (min count self.old.width) self.old }
+        ensures { self.new ≡ changed (iterate tabbed_back (min count self.old.display.width)) self.old }
     {
         let count = usize::from(count).min(self.cells.width());
         for _done in 0..count {
@@ -155,7 +156,7 @@ impl Display {
 
     /// A stop at the cursor's column, or none.
     pub(super) fn set_stop(&mut self, stops: bool)
-        ensures { self.new ≡ with_stop stops self.old }
+        ensures { self.new ≡ changed (with_stop stops) self.old }
     {
         let column = self.cursor.column.min(self.cells.width() - 1);
         self.damage.note_frame();
@@ -164,7 +165,7 @@ impl Display {
 
     /// TBC
     pub(super) fn clear_stops(&mut self, kind: u16)
-        ensures { self.new ≡ cleared_stops kind self.old }
+        ensures { self.new ≡ changed (cleared_stops kind) self.old }
     {
         match kind {
             0 => self.set_stop(false),

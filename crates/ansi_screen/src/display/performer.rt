@@ -1,6 +1,7 @@
 //! What control characters and sequences do to a display.
 ghost use Rattle.std.specs.Prelude.{◌≡◌, ◌<◌, drop};
 ghost use Rattle.anstyle_parse.specs.Views.Params.{groups_shown, groups_left};
+ghost use Rattle.ansi_screen.specs.State.{changed, stepped};
 ghost use Rattle.ansi_screen.specs.After.{first_of, second_of, is_bare, count, edited, moved, set, controlled, sequenced, executed, escaped, designated};
 
 use super::Display;
@@ -48,8 +49,8 @@ fn is_bare(params: &Params) -> bool
 impl Display {
     #[tactic(auto, unfolding(crate::specs::After::edited))]
     fn edit(&mut self, edit: Edit, number: u16)
-        requires { self.old.cursor.column < self.old.width }
-        ensures { self.new ≡ edited edit number self.old }
+        requires { self.old.display.cursor.column < self.old.display.width }
+        ensures { self.new ≡ stepped (edited edit number) self.old }
     {
         let count = number.max(1);
         match edit {
@@ -65,7 +66,7 @@ impl Display {
 
     #[tactic(auto, unfolding(crate::specs::After::moved))]
     fn go(&mut self, to: Move, number: u16, column: u16)
-        ensures { self.new ≡ moved to number column self.old }
+        ensures { self.new ≡ changed (moved to number column) self.old }
     {
         let count = number.max(1);
         match to {
@@ -91,7 +92,7 @@ impl Display {
 
     #[tactic(auto, unfolding(crate::specs::After::set))]
     fn set(&mut self, setting: Setting, params: &Params)
-        ensures { self.new ≡ set setting (groups_shown params.now) self.old }
+        ensures { self.new ≡ stepped (set setting (groups_shown params.now)) self.old }
     {
         let (first, second) = two_fields(params);
         match setting {
@@ -118,7 +119,7 @@ impl Display {
 
     #[tactic(auto, unfolding(crate::specs::After::controlled))]
     fn control(&mut self, function: Function, params: &Params)
-        ensures { self.new ≡ controlled function (groups_shown params.now) self.old }
+        ensures { self.new ≡ stepped (controlled function (groups_shown params.now)) self.old }
     {
         match function {
             Function::Edits(edit) => {
@@ -141,7 +142,7 @@ impl Display {
     /// A control sequence of which nothing was dropped.
     #[tactic(auto, unfolding(crate::specs::After::sequenced))]
     pub(crate) fn sequence(&mut self, params: &Params, intermediates: &[u8], final_byte: u8)
-        ensures { self.new ≡ sequenced (groups_shown params.now) intermediates.now final_byte self.old }
+        ensures { self.new ≡ stepped (sequenced (groups_shown params.now) intermediates.now final_byte) self.old }
     {
         match intermediates {
             [] => self.control(Function::of(final_byte), params),
@@ -161,7 +162,7 @@ impl Display {
     /// A control.
     #[tactic(auto, unfolding(crate::specs::After::executed))]
     pub(crate) fn execute(&mut self, byte: u8)
-        ensures { self.new ≡ executed byte self.old }
+        ensures { self.new ≡ stepped (executed byte) self.old }
     {
         match byte {
             0x08 => {
@@ -183,7 +184,7 @@ impl Display {
     /// An escape sequence without intermediates.
     #[tactic(auto, unfolding(crate::specs::After::escaped))]
     fn escape(&mut self, final_byte: u8)
-        ensures { self.new ≡ escaped final_byte self.old }
+        ensures { self.new ≡ stepped (escaped final_byte) self.old }
     {
         match final_byte {
             b'7' => self.save(),
@@ -209,7 +210,7 @@ impl Display {
     /// An escape sequence of which nothing was dropped.
     #[tactic(auto, unfolding(crate::specs::After::designated))]
     pub(crate) fn designate(&mut self, intermediates: &[u8], final_byte: u8)
-        ensures { self.new ≡ designated intermediates.now final_byte self.old }
+        ensures { self.new ≡ stepped (designated intermediates.now final_byte) self.old }
     {
         match intermediates {
             [] => self.escape(final_byte),

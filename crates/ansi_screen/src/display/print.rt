@@ -1,12 +1,13 @@
 //! Printing a character.
-ghost use Rattle.std.specs.Prelude.{◌≡◌, true, ◌+◌, ◌*◌, ◌<◌, ◌≤◌, min, length};
+ghost use Rattle.std.specs.Prelude.{◌≡◌, true, ◌+◌, ◌*◌, ◌<◌, ◌≤◌, ◌&&◌, nat_le, min, length};
 ghost use Rattle.ansi_screen.specs.Widths.{is_shown, columns};
 ghost use Rattle.std.specs.Fn.{iterate};
 ghost use Rattle.anstyle_parse.specs.Stream.Items.{EachIs};
 ghost use Rattle.ansi_screen.specs.Print.{drawn, wrapped, with_room, with_cells_of, with_glyph, put, marked, shown, printed, printed_again};
-ghost use Rattle.ansi_screen.specs.Edits.{row_goes_on, row_going_on};
+ghost use Rattle.ansi_screen.specs.Edits.{row_goes_on};
 ghost use Rattle.ansi_screen.specs.Runs.{HasRoom, is_printed_ascii, with_run, printed_all};
-ghost use Rattle.ansi_screen.specs.After.{repeated};
+ghost use Rattle.ansi_screen.specs.State.{changed, stepped};
+ghost use Rattle.ansi_screen.specs.After.{repeatable, repeated};
 
 use super::Display;
 use crate::width::{columns, is_shown};
@@ -29,11 +30,25 @@ fn drawn(c: char) -> char
     }
 }
 
+/// What REP repeats after a character.
+#[tactic(auto, unfolding(crate::specs::After::repeatable))]
+fn repeatable(c: char) -> Option<char>
+    ensures { result ≡ repeatable c }
+{
+    if is_shown(c) && columns(c) != 0 {
+        Some(c)
+    } else {
+        None
+    }
+}
+
 impl Display {
+    ghost use Rattle.std.specs.Option.{option_and_then};
+
     /// A character of the stream.
     #[tactic(auto, unfolding(crate::specs::Print::printed))]
     pub(crate) fn print(&mut self, c: char)
-        ensures { self.new ≡ printed c self.old }
+        ensures { self.new ≡ stepped (printed c) self.old }
     {
         if is_shown(c) {
             let draws = self.cursor.charsets.draws();
@@ -44,7 +59,7 @@ impl Display {
     /// A character that is shown. Mostly it is far from the row's end, and no cell moves.
     #[tactic(auto, unfolding(crate::specs::Print::shown))]
     fn show(&mut self, c: char)
-        ensures { self.new ≡ shown c self.old }
+        ensures { self.new ≡ stepped (shown c) self.old }
     {
         let columns = columns(c);
         if columns == 0 {
@@ -62,7 +77,7 @@ impl Display {
     /// A mark of the character before the cursor.
     #[tactic(auto, unfolding(crate::specs::Print::marked))]
     fn mark(&mut self, c: char)
-        ensures { self.new ≡ marked c self.old }
+        ensures { self.new ≡ changed (marked c) self.old }
     {
         if 0 < self.cursor.column {
             let (row, column) = (self.cursor.row, self.cursor.column);
@@ -78,7 +93,7 @@ impl Display {
     /// The character again, where the row has room for it.
     #[tactic(auto, unfolding(crate::specs::Print::printed_again))]
     fn print_again(&mut self, c: char)
-        ensures { self.new ≡ printed_again c self.old }
+        ensures { self.new ≡ changed (printed_again c) self.old }
     {
         if self.cursor.column + usize::from(columns(c)) <= self.cells.width() {
             self.print(c);
@@ -87,7 +102,7 @@ impl Display {
 
     /// The same so many times, one by one.
     fn print_one_by_one(&mut self, count: usize, c: char)
-        ensures { self.new ≡ iterate (printed_again c) count self.old }
+        ensures { self.new ≡ changed (iterate (printed_again c) count) self.old }
     {
         for _done in 0..count {
             self.print_again(c);
@@ -96,8 +111,8 @@ impl Display {
 
     /// How often the row has room for a character that is inserted and takes columns.
     fn insertable(&self, c: char) -> usize
-        ensures fits { self.now.cursor.column + result * columns c ≤ self.now.width }
-        ensures inserts { 0 < result → self.now.inserts ≡ true }
+        ensures fits { self.now.display.cursor.column + result * columns c ≤ self.now.display.width }
+        ensures inserts { 0 < result → self.now.display.inserts ≡ true }
         ensures shown { 0 < result → is_shown c ≡ true }
         ensures some { 0 < result → 0 < columns c }
     {
@@ -113,12 +128,12 @@ impl Display {
     /// The character so many times in insert mode, for which there is room: the rest of the row moves once for all of
     /// them, and then nothing moves any more.
     fn insert_times(&mut self, count: usize, c: char)
-        requires inserts { self.old.inserts ≡ true }
+        requires inserts { self.old.display.inserts ≡ true }
         requires shown { is_shown c ≡ true }
         requires some { 0 < columns c }
         requires count { 0 < count }
-        requires fits { self.old.cursor.column + count * columns c ≤ self.old.width }
-        ensures { self.new ≡ iterate (printed_again c) count self.old }
+        requires fits { self.old.display.cursor.column + count * columns c ≤ self.old.display.width }
+        ensures { self.new ≡ changed (iterate (printed_again c) count) self.old }
     {
         // (for the proof: halves stand in pairs)
         let _ = self.cells.width();
@@ -131,7 +146,7 @@ impl Display {
 
     /// REP
     fn print_times(&mut self, count: usize, c: char)
-        ensures { self.new ≡ iterate (printed_again c) count self.old }
+        ensures { self.new ≡ changed (iterate (printed_again c) count) self.old }
     {
         let fitting = count.min(self.insertable(c));
         if fitting > 0 {
@@ -141,9 +156,17 @@ impl Display {
     }
 
     /// REP, of the character that was printed just before.
+    pub(crate) fn repeat(&mut self, count: u16)
+        ensures { self.new ≡ changed (repeated count self.old.last) self.old }
+    {
+        let last = self.printed.and_then(repeatable);
+        self.repeat_character(count, last);
+    }
+
+    /// REP, of this character, if there is one.
     #[tactic(auto, unfolding(crate::specs::After::repeated))]
-    pub(crate) fn repeat(&mut self, count: u16, last: Option<char>)
-        ensures { self.new ≡ repeated count last self.old }
+    fn repeat_character(&mut self, count: u16, last: Option<char>)
+        ensures { self.new ≡ changed (repeated count last) self.old }
     {
         if let Some(c) = last {
             let count = usize::from(count).min(self.cells.width());
@@ -151,10 +174,18 @@ impl Display {
         }
     }
 
+    /// This character was printed just before, or none: what REP repeats.
+    #[inline]
+    pub(crate) fn set_printed(&mut self, printed: Option<char>)
+        ensures { self.new ≡ record self.old { last = option_and_then repeatable printed } }
+    {
+        self.printed = printed;
+    }
+
     /// Where the row has no room for so many columns, to the next row, or to the last column.
     #[tactic(auto, unfolding(crate::specs::Print::wrapped))]
     fn wrap(&mut self, columns: u16)
-        ensures { self.new ≡ wrapped columns self.old }
+        ensures { self.new ≡ stepped (wrapped columns) self.old }
     {
         if self.cells.width() < self.cursor.column + usize::from(columns) {
             if self.wraps {
@@ -172,7 +203,7 @@ impl Display {
     fn put_character(&mut self, columns: u16, c: char)
         requires some { 1 ≤ columns }
         requires few { columns ≤ 2 }
-        ensures { self.new ≡ put columns c self.old }
+        ensures { self.new ≡ changed (put columns c) self.old }
     {
         if self.cursor.column + usize::from(columns) <= self.cells.width() {
             self.make_room(columns);
@@ -183,10 +214,10 @@ impl Display {
     /// In insert mode the rest of the row moves.
     #[tactic(auto, unfolding(crate::specs::Print::with_room))]
     fn make_room(&mut self, columns: u16)
-        requires { self.old.cursor.column < self.old.width }
-        ensures room { self.new ≡ with_room columns self.old }
-        ensures width { self.new.width ≡ self.old.width }
-        ensures cursor { self.new.cursor ≡ self.old.cursor }
+        requires { self.old.display.cursor.column < self.old.display.width }
+        ensures room { self.new ≡ changed (with_room columns) self.old }
+        ensures width { self.new.display.width ≡ self.old.display.width }
+        ensures cursor { self.new.display.cursor ≡ self.old.display.cursor }
     {
         if self.inserts {
             self.insert_characters(columns);
@@ -197,8 +228,8 @@ impl Display {
     fn put_glyph(&mut self, columns: u16, c: char)
         requires some { 1 ≤ columns }
         requires few { columns ≤ 2 }
-        requires fits { self.old.cursor.column + columns ≤ self.old.width }
-        ensures { self.new ≡ with_glyph columns c self.old }
+        requires fits { self.old.display.cursor.column + columns ≤ self.old.display.width }
+        ensures { self.new ≡ changed (with_glyph columns c) self.old }
     {
         if self.cursor.column + usize::from(columns) + 1 < self.cells.width() {
             self.put_cells(columns, c);
@@ -212,8 +243,8 @@ impl Display {
     fn put_at_end(&mut self, columns: u16, c: char)
         requires some { 1 ≤ columns }
         requires few { columns ≤ 2 }
-        requires fits { self.old.cursor.column + columns ≤ self.old.width }
-        ensures { self.new ≡ with_glyph columns c self.old }
+        requires fits { self.old.display.cursor.column + columns ≤ self.old.display.width }
+        ensures { self.new ≡ changed (with_glyph columns c) self.old }
     {
         // (for the proof: the cells fill the rows)
         let _ = self.cells.width();
@@ -224,14 +255,14 @@ impl Display {
         }
     }
 
-    /// The cells of the character, and the cursor past them.
-    #[inline(always)]
+    /// The cells of the character, and the cursor past them. It is called, so that what it calls stands in line in it.
+    #[inline(never)]
     #[tactic(auto, unfolding(crate::specs::Print::with_cells_of))]
     fn put_cells(&mut self, columns: u16, c: char)
         requires some { 1 ≤ columns }
         requires few { columns ≤ 2 }
-        requires fits { self.old.cursor.column + columns ≤ self.old.width }
-        ensures { self.new ≡ with_cells_of columns c self.old }
+        requires fits { self.old.display.cursor.column + columns ≤ self.old.display.width }
+        ensures { self.new ≡ changed (with_cells_of columns c) self.old }
     {
         let (row, column) = (self.cursor.row, self.cursor.column);
         let style = self.cursor.style;
@@ -249,7 +280,7 @@ impl Display {
     /// is: none in insert mode, and none while lines are drawn.
     #[inline]
     pub(crate) fn room(&self) -> usize
-        ensures { 0 < result → HasRoom result self.now }
+        ensures { 0 < result → HasRoom result self.now.display }
     {
         if self.inserts || self.cursor.charsets.draws() {
             0
@@ -263,38 +294,35 @@ impl Display {
     pub(crate) fn put_run(&mut self, run: &[u8])
         requires some { 0 < length run.now }
         requires ascii { EachIs is_printed_ascii run.now }
-        requires room { HasRoom (length run.now) self.old }
-        ensures { self.new ≡ printed_all run.now self.old }
-    {
-        if self.cursor.column + run.len() + 1 < self.cells.width() {
-            self.put_cells_of_run(run);
-        } else {
-            self.put_run_at_end(run);
-        }
-    }
-
-    /// The same where the row ends, out of line too.
-    #[inline(never)]
-    fn put_run_at_end(&mut self, run: &[u8])
-        requires some { 0 < length run.now }
-        requires fits { self.old.cursor.column + length run.now ≤ self.old.width }
-        ensures { self.new ≡ row_going_on (row_goes_on self.old) (with_run run.now self.old) }
+        requires room { HasRoom (length run.now) self.old.display }
+        ensures { self.new ≡ changed (printed_all run.now) self.old }
     {
         // (for the proof: the cells fill the rows)
         let _ = self.cells.width();
-        let was_going_on = self.goes_on();
+        // (the cells are put at one place, in line: so one test is all that a short run pays for its row)
+        let was_going_on = self.goes_on_at_end(self.cursor.column + run.len());
         self.put_cells_of_run(run);
         if was_going_on {
             self.set_goes_on(true);
         }
     }
 
+    /// Whether the cursor's row goes on, where cells up to that column come to its last cell or the one before it.
+    /// Others leave what the row says.
+    #[inline(always)]
+    fn goes_on_at_end(&self, end: usize) -> bool
+        requires fits { end ≤ self.now.display.width }
+        ensures { result ≡ (nat_le self.now.display.width (end + 1) && row_goes_on self.now.display) }
+    {
+        self.cells.width() <= end + 1 && self.goes_on()
+    }
+
     /// Puts its cells, and the cursor after them.
     #[inline(always)]
     fn put_cells_of_run(&mut self, run: &[u8])
         requires some { 0 < length run.now }
-        requires fits { self.old.cursor.column + length run.now ≤ self.old.width }
-        ensures { self.new ≡ with_run run.now self.old }
+        requires fits { self.old.display.cursor.column + length run.now ≤ self.old.display.width }
+        ensures { self.new ≡ changed (with_run run.now) self.old }
     {
         let (row, column) = (self.cursor.row, self.cursor.column);
         let style = self.cursor.style;

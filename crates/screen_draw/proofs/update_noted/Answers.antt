@@ -22,8 +22,8 @@ pub returns-clause-no_reset : goal.returns-clause-no_reset
 returns-clause-no_reset g c = no-reset c.args.shown.now.display c.args.wanted.now.display
 
 pub returns-clause-updated : goal.returns-clause-updated
-returns-clause-updated g c = λ since old new from has to gets is shows.
-    updated-shows c.args.shown.now.display c.args.wanted.now.display since old new c.put_update.ensures.drawing c.requires.noted.width c.requires.noted.height from has to gets is shows
+returns-clause-updated g c = λ old new from has to gets is shows.
+    updated-shows c.args.shown.now.display c.args.wanted.now.display old new c.put_update.ensures.drawing c.requires.noted.width c.requires.noted.height from has to gets is shows
 
 pub returns-clause-bound : goal.returns-clause-bound
 returns-clause-bound g c = λ sized. update-bound c.args.shown.now.display c.args.wanted.now.display sized c.put_update.ensures.drawing

@@ -1,9 +1,11 @@
-//! What a screen shows as HTML, and where its links lead to.
+//! What a screen shows and what left it as HTML and as lines, and where its links lead to.
 use super::{Put, Ran, assert_same, assert_written, fed, memory};
 use ansi_html::{Scheme, Styling};
+use ansi_screen::TakeRow;
 use screen_html::laws::page;
-use screen_html::{LinkTable, write_screen};
+use screen_html::{LinkTable, PageRows};
 use screen_pieces::Terminal;
+use screen_pieces::laws::lines_are_fragments;
 use std::alloc::{AllocError, AllocGlobal, Global};
 use std::process::Abort;
 use std::test::Fail;
@@ -19,6 +21,27 @@ fn by_classes(terminal: &Terminal, alloc: Global) -> Put<106> {
     let mut room = [0; 106];
     let answer = terminal.html(alloc, 3, &mut room);
     (answer, room)
+}
+
+/// The same screen, which the row has left: below it stands another one.
+fn scrolled(alloc: Global) -> Result<Terminal, AllocError> {
+    Ok(fed(Terminal::with_history(alloc, 8, 2, 1, true)?, LEFT))
+}
+
+const LEFT: &[u8] = b"a\x1b]8;;https://b\x1b\\<\x1b]8;;\x1b\\\x1b[1mc\x1b[m\r\n\r\nd";
+
+/// What left it by classes, in as much room.
+fn left_by_classes(terminal: &Terminal, alloc: Global) -> Put<106> {
+    let mut room = [0; 106];
+    let answer = terminal.lines_html(alloc, 1, 3, &mut room);
+    (answer, room)
+}
+
+/// Its lines, in seven bytes of room: those that left, or all.
+fn assert_lines(rt: &impl Abort, terminal: &Terminal, which: u8, wanted: Put<7>) {
+    let mut room = [0; 7];
+    let answer = terminal.lines(which, &mut room);
+    assert_same(rt, &(answer, room), &wanted);
 }
 
 /// The URI of a link, in nine bytes of room.
@@ -37,10 +60,13 @@ fn assert_no_room(rt: &impl Abort, terminal: &Terminal) {
     assert_same(rt, &terminal.link_uri(1, &mut [0; 8]), &Err(9));
 }
 
-/// The same screen, without its links, on a light page.
+/// The row that left, without its links, on a light page.
 fn without_links(terminal: &Terminal, links: &LinkTable, alloc: Global) -> Ran {
-    let styling = Styling::Inline(Scheme::Light);
-    let (writer, answer) = write_screen(terminal.screen(), links, styling, memory(alloc)).finish();
+    let mut rows = PageRows::new(Styling::Inline(Scheme::Light), links, memory(alloc));
+    if let Some((cells, written)) = terminal.history().row(0) {
+        rows.take_row(cells, written);
+    }
+    let (writer, answer) = rows.into_output().finish();
     (writer.into_inner(), answer)
 }
 
@@ -54,27 +80,42 @@ fn assert_by_classes(rt: &impl Abort, written: Put<106>, wanted: [u8; 106]) {
     assert_same(rt, &written, &(Ok(106), wanted));
 }
 
-/// What a screen shows by classes, and without links.
-fn assert_html(rt: &(impl Abort + AllocGlobal), terminal: Terminal, links: LinkTable) {
+/// What a screen shows by classes.
+fn assert_html(rt: &(impl Abort + AllocGlobal), terminal: Terminal) {
     assert_by_classes(rt, by_classes(&terminal, rt.alloc()), BY_CLASSES);
+    drop(terminal);
+}
+
+/// What left it by classes, and without links; and lines.
+fn assert_left(rt: &(impl Abort + AllocGlobal), terminal: Terminal, links: LinkTable) {
+    assert_by_classes(rt, left_by_classes(&terminal, rt.alloc()), BY_CLASSES);
     assert_written(
         rt,
         without_links(&terminal, &links, rt.alloc()),
         WITHOUT_LINKS,
     );
+    assert_lines(rt, &terminal, 1, (Ok(4), *b"a<c\n\0\0\0"));
+    assert_lines(rt, &terminal, 2, (Ok(7), *b"a<c\n\nd\n"));
     drop(links);
     drop(terminal);
 }
 
-/// The screen, and a table without links.
+/// The screen that a row has left, and a table without links.
 fn with_no_links(alloc: Global) -> Result<(Terminal, LinkTable), AllocError> {
-    Ok((shown(alloc)?, LinkTable::new(alloc)?))
+    Ok((scrolled(alloc)?, LinkTable::new(alloc)?))
 }
 
 #[test]
 fn html(rt: HostRuntime) -> Result<(), Fail> {
+    let terminal = shown(rt.alloc())?;
+    assert_html(&rt, terminal);
+    Ok(())
+}
+
+#[test]
+fn lines(rt: HostRuntime) -> Result<(), Fail> {
     let (terminal, links) = with_no_links(rt.alloc())?;
-    assert_html(&rt, terminal, links);
+    assert_left(&rt, terminal, links);
     Ok(())
 }
 
@@ -102,8 +143,9 @@ fn links(rt: HostRuntime) -> Result<(), Fail> {
     Ok(())
 }
 
-// The name of the law.
+// The names of the laws.
 #[test]
 fn laws(_rt: HostRuntime) {
     page();
+    lines_are_fragments();
 }

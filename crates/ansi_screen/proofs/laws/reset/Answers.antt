@@ -5,7 +5,7 @@ use Rattle.ansi_screen.proofs.LawLemmas.{after-reset, reset-forgets}
 use Rattle.ansi_screen.proofs.laws.reset.Goals as goal
 
 pub returns-clause-new : goal.returns-clause-new
-returns-clause-new c = λ screen. ap (λ (s : State). s.display) (after-reset screen)
+returns-clause-new c = λ screen. after-reset screen
 
 pub returns-clause-last : goal.returns-clause-last
 returns-clause-last c = λ screen. ap (λ (s : State). s.last) (after-reset screen)

@@ -1,5 +1,5 @@
 -- No call reads what was shown, nor what is kept of rows that left.
-use Rattle.ansi_screen.proofs.PictureLemmas.{same-after_all, unkept-after_all}
+use Rattle.ansi_screen.proofs.LeftLemmas.{same-after_all, unkept-after_all}
 use Rattle.ansi_screen.proofs.laws.unread.Goals as goal
 
 pub returns-clause-shown : goal.returns-clause-shown

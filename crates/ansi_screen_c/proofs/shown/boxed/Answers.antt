@@ -6,5 +6,4 @@ use Rattle.ansi_screen_c.proofs.shown.boxed.Goals as goal
 
 pub returns : goal.returns
 returns c =
-    let options = c.args.options.now in
-    subst (λ (log : ShownLog). IsOpened _ options.columns options.rows options.form options.styling (Some log)) (sym c.in-Ok.ensures.ok) c.in-Some.ensures
+    subst (λ (log : ShownLog). IsOpened _ c.args.options.now (Some log)) (sym c.in-Ok.ensures.ok) c.in-Some.ensures

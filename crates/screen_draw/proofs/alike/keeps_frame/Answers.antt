@@ -8,4 +8,4 @@ pub returns-then-not-has_frame : goal.returns-then-not-has_frame
 returns-then-not-has_frame c =
     let a = c.args.a.now.display in
     let b = c.args.b.now.display in
-    ap not c.if-not-has_frame.true ∙ sym (frame-kept a b (c.has_frame.ensures a c.requires c.if-not-has_frame.true))
+    ap not c.if-not-has_frame.true ∙ sym (frame-kept a b (c.has_frame.ensures c.args.a.now c.requires c.if-not-has_frame.true))

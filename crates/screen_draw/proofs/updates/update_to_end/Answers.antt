@@ -36,7 +36,7 @@ loop-turn-init g c = record {
   each = tt;
   are_screens = tt;
   is_last = refl;
-  is_shown = ap unkept (c.requires.same ∙ ap (λ (s : State). with_shown s.display.shown c.args.wanted.now) (sym c.requires.same));
+  is_shown = ap unkept (c.requires.same ∙ ap (λ (s : State). with_shown s.shown c.args.wanted.now) (sym c.requires.same));
   draws = no-updates g.W.Sink c.hand_on.new.output;
   shows = ([], AreCalls-nil, refl);
   stands = c.new-parser.ensures.stands;
@@ -76,9 +76,9 @@ update_noted-requires g c =
     let first = c.args.wanted.now in
     let last = last_of first before.screens in
     record {
-      noted = (comes-on first last c.loop-turn.shown c.forget.new.self c.advance_texts.new.performer c.loop-turn.shown.display.shown (joined before.pieces)
+      noted = (comes-on first last c.loop-turn.shown c.forget.new.self c.advance_texts.new.performer c.loop-turn.shown.shown (joined before.pieces)
           (take c.in-Some.count c.read.new.into) _ before.shows (c.advance_texts.ensures.stream (joined before.pieces) before.stands) before.is_shown
-          (was-forgotten last c.loop-turn.wanted c.forget.new.self c.loop-turn.wanted.display.shown before.is_last c.forget.ensures)
+          (was-forgotten last c.loop-turn.wanted c.forget.new.self c.loop-turn.wanted.shown before.is_last c.forget.ensures)
           c.columns.ensures.sized c.advance_texts.ensures.calls).noted;
     }
 
@@ -90,9 +90,9 @@ returns-in_err-hand_on-in-Some g c =
     let last = last_of first before.screens in
     let wanted = c.advance_texts.new.performer in
     let bytes = take c.in-Some.count c.read.new.into in
-    let comes = comes-on first last c.loop-turn.shown c.forget.new.self wanted c.loop-turn.shown.display.shown (joined before.pieces)
+    let comes = comes-on first last c.loop-turn.shown c.forget.new.self wanted c.loop-turn.shown.shown (joined before.pieces)
     bytes _ before.shows (c.advance_texts.ensures.stream (joined before.pieces) before.stands) before.is_shown
-    (was-forgotten last c.loop-turn.wanted c.forget.new.self c.loop-turn.wanted.display.shown before.is_last c.forget.ensures)
+    (was-forgotten last c.loop-turn.wanted c.forget.new.self c.loop-turn.wanted.shown before.is_last c.forget.ensures)
     c.columns.ensures.sized c.advance_texts.ensures.calls in
     let drawn : Draws g.W.Sink (drawn_calls first.display) c.args.output.now c.hand_on.new.output =
     begins g.W.Sink c.args.shown.now first _ _ _ c.requires.same c.draw.ensures.text c.draw.ensures.only c.hand_on.ensures.passed in
@@ -112,7 +112,7 @@ returns-in_err-hand_on-in-Some g c =
     (Consumes-trans _ _ _ _ _ before.consumed c.in-Some.ensures.passed))
     (pieces-more IsPiece before.pieces bytes before.each is_piece)
     (screens-more first comes.next [] bytes before.pieces before.screens before.are_screens comes.shows)
-    (with-own wanted comes.next _ comes.is ∙ ap (with_shown wanted.display.shown) (sym ended)) drawn updated
+    (with-own wanted comes.next _ comes.is ∙ ap (with_shown wanted.shown) (sym ended)) drawn updated
     (stops-there g.W.Sink (Unit {0}) _ _ _ _ _ c.loop-turn.output c.hand_on-in-Some.new.output passed before.no_fault _ c.in_err-hand_on-in-Some.ensures.answer
     (c.in-Some.ensures.not_failed ∙ before.not_failed)))
 
@@ -123,9 +123,9 @@ come_after-requires g c =
     let first = c.args.wanted.now in
     let last = last_of first before.screens in
     record {
-      noted = (comes-on first last c.loop-turn.shown c.forget.new.self c.advance_texts.new.performer c.loop-turn.shown.display.shown (joined before.pieces)
+      noted = (comes-on first last c.loop-turn.shown c.forget.new.self c.advance_texts.new.performer c.loop-turn.shown.shown (joined before.pieces)
           (take c.in-Some.count c.read.new.into) _ before.shows (c.advance_texts.ensures.stream (joined before.pieces) before.stands) before.is_shown
-          (was-forgotten last c.loop-turn.wanted c.forget.new.self c.loop-turn.wanted.display.shown before.is_last c.forget.ensures)
+          (was-forgotten last c.loop-turn.wanted c.forget.new.self c.loop-turn.wanted.shown before.is_last c.forget.ensures)
           c.columns.ensures.sized c.advance_texts.ensures.calls).noted;
     }
 
@@ -136,9 +136,9 @@ loop-turn-preserved g c =
     let last = last_of first before.screens in
     let wanted = c.advance_texts.new.performer in
     let bytes = take c.in-Some.count c.read.new.into in
-    let comes = comes-on first last c.loop-turn.shown c.forget.new.self wanted c.loop-turn.shown.display.shown (joined before.pieces)
+    let comes = comes-on first last c.loop-turn.shown c.forget.new.self wanted c.loop-turn.shown.shown (joined before.pieces)
     bytes _ before.shows (c.advance_texts.ensures.stream (joined before.pieces) before.stands) before.is_shown
-    (was-forgotten last c.loop-turn.wanted c.forget.new.self c.loop-turn.wanted.display.shown before.is_last c.forget.ensures)
+    (was-forgotten last c.loop-turn.wanted c.forget.new.self c.loop-turn.wanted.shown before.is_last c.forget.ensures)
     c.columns.ensures.sized c.advance_texts.ensures.calls in
     let more = sym (joined-more before.pieces bytes) in
     let ended : last_of first (before.screens ++ comes.next ∷ []) ≡ comes.next = last-more first comes.next before.screens in
@@ -157,8 +157,8 @@ loop-turn-preserved g c =
           (Consumes-trans _ _ _ _ _ before.consumed c.in-Some.ensures.passed);
       each = pieces-more IsPiece before.pieces bytes before.each is_piece;
       are_screens = screens-more first comes.next [] bytes before.pieces before.screens before.are_screens comes.shows;
-      is_last = looks ∙ ap (with_shown wanted.display.shown) (sym ended);
-      is_shown = shown ∙ ap (λ (s : State). with_shown c.come_after.new.shown.display.shown (unkept s)) (sym ended);
+      is_last = looks ∙ ap (with_shown wanted.shown) (sym ended);
+      is_shown = shown ∙ ap (λ (s : State). with_shown c.come_after.new.shown.shown (unkept s)) (sym ended);
       draws = draws-more g.W.Sink first c.loop-turn.shown wanted comes.next _ _ before.screens _ _ _ _ before.draws
           before.is_shown comes.is c.update_noted.ensures.text c.update_noted.ensures.only c.hand_on-in-Some.ensures.passed;
       shows = subst (λ l. Shows first l (last_of first (before.screens ++ comes.next ∷ []))) more

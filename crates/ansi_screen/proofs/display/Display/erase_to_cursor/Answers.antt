@@ -1,8 +1,8 @@
 -- The front of the row, and the rows above it.
-use Rattle.std.proofs.Common.{◌≡◌, ◌+◌, ◌*◌, ◌<◌, length, ap, sym, ◌∙◌, subst, arith}
-use Rattle.ansi_screen.specs.declared.cell.Cell.{Cell}
+use Rattle.std.proofs.Common.{◌≡◌, ◌+◌, ◌*◌, ◌<◌, length, refl, ap, sym, ◌∙◌, subst, arith}
 use Rattle.ansi_screen.specs.Cells.{within, erased}
 use Rattle.ansi_screen.specs.Display.{Display, row_start, here}
+use Rattle.ansi_screen.specs.State.{State, changed}
 use Rattle.ansi_screen.specs.Edits.{with_cells, space, erased_cells}
 use Rattle.ansi_screen.specs.Reachable.{RowsBegin}
 use Rattle.ansi_screen.proofs.MovedLemmas.{erase-to}
@@ -10,18 +10,21 @@ use Rattle.ansi_screen.proofs.display.Display.erase_to_cursor.Goals as goal
 
 pub returns : goal.returns
 returns c =
-    let d = c.args.self.now in
-    let one = c.erase_columns.new.self in
+    let s = c.args.self.now in
+    let d = s.display in
     let column = c.self.inside.cursor.column in
-    let row_is : c.self.inside.cursor.row ≡ d.cursor.row = ap (λ (e : Display). e.cursor.row) c.self.view_is in
-    let column_is : column ≡ d.cursor.column = ap (λ (e : Display). e.cursor.column) c.self.view_is in
+    let row_is : c.self.inside.cursor.row ≡ d.cursor.row = ap (λ (e : State). e.display.cursor.row) c.self.view_is in
+    let column_is : column ≡ d.cursor.column = ap (λ (e : State). e.display.cursor.column) c.self.view_is in
     let place : row_start d + (column + 1) ≡ here d + 1 = omega (arith, column_is) in
-    erase-to d one c.clear_rows.new.self d.cursor.row column (space d)
-    (subst (λ (e : Display). length e.cells ≡ e.height * e.width) c.self.view_is c.width.ensures.filled)
-    (subst (λ (e : Display). RowsBegin e.width e.cells) c.self.view_is c.width.ensures.begin)
-    (subst (λ (e : Display). e.cursor.row < e.height) c.self.view_is c.self.invariant.2.sized.cursor_row)
-    (subst (λ n. n < d.width) (sym column_is) c.requires) c.erase_columns.ensures
-    (c.clear_rows.ensures
-    ∙ (ap (λ n. with_cells (within (0 * one.width) (n * one.width) (erased (space one)) one.cells) one) row_is
-    ∙ ap (λ (gap : Cell). with_cells (within (0 * one.width) (d.cursor.row * one.width) (erased gap) one.cells) one) (ap space c.erase_columns.ensures)))
-    ∙ ap (λ n. erased_cells 0 n d) place
+    let above : Display → Display = λ e. with_cells (within (0 * e.width) (d.cursor.row * e.width) (erased (space e)) e.cells) e in
+    let both =
+    erase-to d (erased_cells (row_start d + 0) (row_start d + (column + 1)) d) _ d.cursor.row column (space d)
+    (subst (λ (e : State). length e.display.cells ≡ e.display.height * e.display.width) c.self.view_is c.width.ensures.filled)
+    (subst (λ (e : State). RowsBegin e.display.width e.display.cells) c.self.view_is c.width.ensures.begin)
+    (subst (λ (e : State). e.display.cursor.row < e.display.height) c.self.view_is c.self.invariant.2.sized.cursor_row)
+    (subst (λ n. n < d.width) (sym column_is) c.requires) refl refl in
+    c.clear_rows.ensures
+    ∙ (ap (λ n. changed (λ e. with_cells (within (0 * e.width) (n * e.width) (erased (space e)) e.cells) e) c.erase_columns.new.self) row_is
+    ∙ (ap (changed above) c.erase_columns.ensures
+    ∙ (ap (λ e. record s { display = e }) both
+    ∙ ap (λ n. record s { display = erased_cells 0 n d }) place)))

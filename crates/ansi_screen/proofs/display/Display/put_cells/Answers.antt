@@ -1,13 +1,13 @@
 -- The columns of the character are noted.
 use Rattle.std.proofs.Common.{◌+◌, ◌≤◌, sym, subst}
-use Rattle.ansi_screen.specs.Display.{Display}
+use Rattle.ansi_screen.specs.State.{State}
 use Rattle.ansi_screen.proofs.DamageLemmas.{puts-row, writes-glyph}
 use Rattle.ansi_screen.proofs.display.Display.put_cells.Goals as goal
 
 pub invariant_of-self : goal.invariant_of-self
 invariant_of-self c =
     let fits : c.self.inside.cursor.column + c.args.columns ≤ c.self.inside.cells.width =
-    subst (λ (d : Display). d.cursor.column + c.args.columns ≤ d.width) (sym c.self.view_is) c.requires.fits in
+    subst (λ (d : State). d.display.cursor.column + c.args.columns ≤ d.display.width) (sym c.self.view_is) c.requires.fits in
     let was = c.self.invariant.2 in
     rw c.from.ensures
     (puts-row c.self.inside.damage c.note.new.self c.self.inside.cells c.put.new.self c.self.inside.hidden _ _ c.self.view_is c.self.invariant _ c.put.ensures _ _ _ _ fits

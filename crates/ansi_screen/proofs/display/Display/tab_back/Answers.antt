@@ -2,11 +2,13 @@
 use Rattle.std.proofs.Common.{ap, sym, ◌∙◌, add-one}
 use Rattle.std.specs.Fn.{iterate}
 use Rattle.ansi_screen.specs.Moves.{tabbed_back}
+use Rattle.ansi_screen.specs.State.{changed}
 use Rattle.ansi_screen.proofs.RepeatLemmas.{iterate-suc}
 use Rattle.ansi_screen.proofs.display.Display.tab_back.Goals as goal
 
 pub loop-done-preserved : goal.loop-done-preserved
 loop-done-preserved c =
-    c.tab_back_once.ensures ∙ (ap tabbed_back c.loop-done.invariant
-    ∙ (sym (iterate-suc tabbed_back c.loop-done._done c.args.self.now)
-    ∙ ap (λ n. iterate tabbed_back n c.args.self.now) (sym (add-one c.loop-done._done))))
+    let s = c.args.self.now in
+    c.tab_back_once.ensures ∙ (ap (changed tabbed_back) c.loop-done.invariant
+    ∙ ap (λ d. record s { display = d }) (sym (iterate-suc tabbed_back c.loop-done._done s.display)
+    ∙ ap (λ n. iterate tabbed_back n s.display) (sym (add-one c.loop-done._done))))

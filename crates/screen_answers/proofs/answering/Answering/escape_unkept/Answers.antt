@@ -25,4 +25,4 @@ returns c =
     ap (λ (t : State). record c.args.self.now { screen = t })
     (c.swap_history-2.ensures.kept
     ∙ (ap (λ (h : Option Kept). with_kept h c.esc_dispatch.new.self) c.swap_history.ensures.taken
-    ∙ (ap (with_kept s.display.history) led ∙ put-back s.display.history call s)))
+    ∙ (ap (with_kept s.history) led ∙ put-back s.history call s)))

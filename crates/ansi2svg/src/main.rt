@@ -1,4 +1,5 @@
-//! Draws what a terminal's screen shows at the end of a file, or of standard input: a picture, as SVG.
+//! Draws what a terminal's screen shows at the end of a file, or of standard input, or all that it showed: a picture, as
+//! SVG.
 #![tactic(auto)]
 
 mod picture;
@@ -18,7 +19,7 @@ use screen_svg::Drawing;
 use shared_options::{SIZE, begun, named_file, named_size, screen_size};
 use std::alloc::Global;
 use std::process::ExitCode;
-use words::{HELP, MORE_FILES, OPTIONS, drawing, font, title};
+use words::{HELP, MORE_FILES, OPTIONS, asks_for_all, drawing, font, title};
 
 /// The name at the front of what the program says of failures.
 const PROGRAM: &str = "ansi2svg";
@@ -49,27 +50,45 @@ fn main(rt: HostRuntime) -> ExitCode {
         title: title(options),
         font: font(options),
     };
-    let (input, output, ran) = drawn(rt.alloc(), input, size, drawing(options), named, output);
+    let asked = Asked {
+        size,
+        is_all: asks_for_all(options),
+        drawing: drawing(options),
+    };
+    let (input, output, ran) = drawn(rt.alloc(), input, asked, named, output);
     let (writer, answer) = output.finish();
     let ran = (writer, ran.and(answer.map_err(Stopped::AtFault)));
     target.ended(input.has_failed(), ran)
 }
 
-/// Draws what a screen shows at the end of a stream: one of this size, or else of the one that the stream says.
+/// What is asked for: the size of the screen, if one is said, all that it showed or what it shows, and how.
+#[derive(Clone, Copy)]
+struct Asked {
+    size: Option<Size>,
+    is_all: bool,
+    drawing: Drawing,
+}
+
+/// Draws what a screen shows at the end of a stream, or all that it showed: one of this size, or else of the one that the
+/// stream says.
 fn drawn<R: Source, W: Sink>(
     alloc: Global,
     source: R,
-    size: Option<Size>,
-    drawing: Drawing,
+    asked: Asked,
     named: Named<'_>,
     output: Output<W>,
 ) -> (R, Output<W>, Result<(), Stopped>)
-    requires { IfSome size IsTaken }
+    requires { IfSome asked.size IsTaken }
 {
+    let Asked {
+        size,
+        is_all,
+        drawing,
+    } = asked;
     let mut front = [0; MOST_FRONT];
     let (recorded, mut source) = begun(source, &mut front);
     let size = screen_size(size, recorded);
-    let Ok(mut linked) = Linked::new(alloc, size) else {
+    let Ok(mut linked) = Linked::new(alloc, size, is_all) else {
         return (source.into_inner(), output, Err(Stopped::NoMemory));
     };
     let (output, answer) = draw_to_end(&mut source, &mut linked, drawing, named, output);

@@ -1,14 +1,14 @@
-//! What a screen shows at the end of a stream, with its links, as a picture.
+//! What a screen shows at the end of a stream, or all that it showed, with its links, as a picture.
 ghost use Rattle.std.specs.Prelude.{IfOk};
 ghost use Rattle.ansi_screen.specs.Size.{IsTaken};
-ghost use Rattle.screen_svg.specs.Picture.{svg};
-ghost use Rattle.ansi2svg.specs.Picture.{IsNew, DrawsToEnd};
+ghost use Rattle.anstyle_parse.specs.Io.Output.{Adds};
+ghost use Rattle.ansi2svg.specs.Picture.{IsNew, picture_of, DrawsToEnd};
 
 use ansi_screen::{Screen, Size};
 use anstyle_parse::io::{Fault, Output, Sink, Source, perform_texts_to_end};
 use anstyle_parse::{Params, Perform, PerformText};
 use screen_html::LinkTable;
-use screen_svg::{Drawing, write_svg};
+use screen_svg::{Drawing, MOST_ABOVE, write_shown, write_svg};
 use std::alloc::{AllocError, Global};
 
 /// The title and the fonts of a picture.
@@ -23,17 +23,26 @@ pub struct Named<'a> {
 pub struct Linked {
     pub screen: Screen,
     pub links: LinkTable,
+    /// All that it showed is drawn, and a line feed does a carriage return first, as a terminal's line gives it.
+    pub is_all: bool,
 }
 
 impl Linked {
-    /// A blank screen of this size, with no link. `Err` means that memory is wanting.
-    pub fn new(alloc: Global, size: Size) -> Result<Linked, AllocError>
+    /// A blank screen of this size, with no link, which keeps rows that leave it where all that it shows is drawn. `Err`
+    /// means that memory is wanting.
+    pub fn new(alloc: Global, size: Size, is_all: bool) -> Result<Linked, AllocError>
         requires { IsTaken size }
-        ensures { IfOk result (IsNew size) }
+        ensures { IfOk result (IsNew size is_all) }
     {
+        let screen = if is_all {
+            Screen::with_history(alloc, size.columns, size.rows, MOST_ABOVE)?
+        } else {
+            Screen::new(alloc, size.columns, size.rows)?
+        };
         Ok(Linked {
-            screen: Screen::new(alloc, size.columns, size.rows)?,
+            screen,
             links: LinkTable::new(alloc)?,
+            is_all,
         })
     }
 }
@@ -50,6 +59,9 @@ impl Perform for Linked {
     }
 
     fn execute(&mut self, byte: u8) {
+        if self.is_all && byte == b'\n' {
+            self.screen.execute(b'\r');
+        }
         self.screen.execute(byte);
     }
 
@@ -94,7 +106,25 @@ impl PerformText for Linked {
     ghost follows = { becomes-follows };
 }
 
-/// Gives the screen all that the reader gives, and then draws what it shows, with the links that are kept.
+/// Draws what a screen shows, or all that it showed, with the links that are kept.
+fn drawn<W: Sink>(
+    linked: &Linked,
+    drawing: Drawing,
+    named: Named<'_>,
+    output: Output<W>,
+) -> Output<W>
+    ensures { Adds W.Sink (picture_of drawing named.entry.title.now named.entry.font.now linked.now) output result }
+{
+    let screen = &linked.screen;
+    let links = &linked.links;
+    if linked.is_all {
+        write_shown(screen, links, drawing, named.title, named.font, output)
+    } else {
+        write_svg(screen, links, drawing, named.title, named.font, output)
+    }
+}
+
+/// Gives the screen all that the reader gives, and then draws what it shows, or all that it showed.
 ///
 /// `Ok` means that the reader is at its end; `Err(Fault::Read)` that a read failed, or that 2^64 - 1 reads all gave
 /// bytes: then what the bytes before that lead to is drawn. A write that fails is kept in the output.
@@ -105,17 +135,9 @@ pub fn draw_to_end<R: Source, W: Sink>(
     named: Named<'_>,
     output: Output<W>,
 ) -> (Output<W>, Result<(), Fault>)
-    ensures { DrawsToEnd R.Source W.Sink (svg drawing named.entry.title.now named.entry.font.now)
+    ensures { DrawsToEnd R.Source W.Sink (picture_of drawing named.entry.title.now named.entry.font.now)
         reader.old reader.new linked.old linked.new output result.0 result.1 }
 {
     let answer = perform_texts_to_end(reader, linked);
-    let output = write_svg(
-        &linked.screen,
-        &linked.links,
-        drawing,
-        named.title,
-        named.font,
-        output,
-    );
-    (output, answer)
+    (drawn(linked, drawing, named, output), answer)
 }

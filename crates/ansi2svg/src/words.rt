@@ -1,15 +1,16 @@
 //! The words of the program: the picture that its options ask for, and what it says of itself.
 ghost use Rattle.std.specs.Prelude.{◌≡◌, [], codes, map, string_bytes, unwrap_or};
 ghost use Rattle.command_line.specs.Options.{last_value};
-ghost use Rattle.ansi2svg.specs.Words.{usual_font, AsksFor};
+ghost use Rattle.ansi2svg.specs.Words.{usual_font, asks_for_all, AsksFor};
 
 use command_line::{OUTPUT, has_word, value_of};
 use screen_svg::{Drawing, FONT};
+use screen_text::SHOWN;
 use shared_options::{SIZE, scheme_of};
 
 /// The options.
 pub const OPTIONS: &[&str] = &[
-    SIZE, "--light", "--dark", CURSOR, WINDOW, TITLED, IN_FONT, OUTPUT,
+    SIZE, SHOWN, "--light", "--dark", CURSOR, WINDOW, TITLED, IN_FONT, OUTPUT,
 ];
 
 /// What asks for the cursor.
@@ -29,8 +30,8 @@ pub const MORE_FILES: &str = "ansi2svg: a picture is that of one file (see ansi2
 
 /// What `--help` says.
 pub const HELP: &str = "\
-usage: ansi2svg [--size=COLUMNSxROWS] [--light | --dark] [--cursor] [--window]
-                [--title=TEXT] [--font=FONTS] [-o FILE] [FILE]
+usage: ansi2svg [--size=COLUMNSxROWS] [--shown] [--light | --dark] [--cursor]
+                [--window] [--title=TEXT] [--font=FONTS] [-o FILE] [FILE]
 
 Draws what a terminal's screen shows at the end of a file, in its colours: a picture,
 as SVG. Input is UTF-8. With no FILE, or for -, standard input is read. A word after
@@ -41,6 +42,8 @@ The line that script writes at the front of a recording is left out, and where n
 size is given the screen has the one that this line says, and else 80x24.
 
   --size=COLUMNSxROWS     the screen's size, from 2x1 to 1000x1000
+  --shown                 draw all that the screen showed: the last 1000 rows that
+                          left it, and then its own
   --light                 colours for light pages alone, in place of those that the
                           reader of the picture has chosen
   --dark                  colours for dark pages alone
@@ -56,6 +59,13 @@ size is given the screen has the one that this line says, and else 80x24.
 Example, the last screen of a recording:
   ansi2svg -o recording.svg recording
 ";
+
+/// Whether the words ask for all that a screen showed.
+pub fn asks_for_all(words: &[String]) -> bool
+    ensures { result ≡ asks_for_all (map string_bytes words.now) }
+{
+    has_word(words, SHOWN)
+}
 
 /// The picture that the words ask for.
 pub fn drawing(words: &[String]) -> Drawing

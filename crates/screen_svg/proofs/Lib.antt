@@ -2,6 +2,7 @@ pub mod XmlLemmas
 pub mod AddsLemmas
 pub mod RunLemmas
 pub mod SafeLemmas
+pub mod ShapeLemmas
 pub mod CharacterLemmas
 pub mod GrammarLemmas
 pub mod NamedLemmas

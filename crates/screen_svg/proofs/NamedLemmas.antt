@@ -1,15 +1,17 @@
 -- The names in a picture are names, so that a reader reads it back.
 use Rattle.std.proofs.Common.{◌≡◌, ℕ, Bool, true, false, List, [], ◌∷◌, ◌++◌, codes, decimal, map, refl, sym, subst}
-use Rattle.std.specs.List.{AllByRecursion}
+use Rattle.std.specs.List.{AllByRecursion, flat_map}
 use Rattle.ansi_html.specs.declared.scheme.Scheme.{Scheme}
 use Rattle.ansi_html.specs.Links.{IsLink}
-use Rattle.ansi_screen.specs.Display.{Display}
+use Rattle.ansi_screen.specs.State.{State}
 use Rattle.screen_html.specs.Links.{Table, link_at}
 use Rattle.screen_svg.specs.declared.drawing.Drawing.{Drawing}
+use Rattle.screen_svg.specs.declared.drawing.Extent.{Extent}
 use Rattle.screen_svg.specs.Xml.{Attribute, attribute, Event, byte, end, read}
-use Rattle.screen_svg.specs.Picture.{element, box, class, rectangle, rules, circle, dots, bar_attributes, bar, name_place, name, window_events, picture, svg, page_rules, shape_rules}
+use Rattle.screen_svg.specs.Shapes.{shape_of}
+use Rattle.screen_svg.specs.Picture.{element, pair, box, class, rectangle, rules, circle, dots, bar_attributes, bar, name_place, name, window_events, picture, svg, page_rules, shape_rules}
 use Rattle.screen_svg.specs.Characters.{text_of}
-use Rattle.screen_svg.specs.Grammar.{IsTextStyle, plain, styled, text_at, AreShapes, no_more, filled, text, link, IsTitle, untitled, titled, IsCursor, unseen, frame, IsPicture}
+use Rattle.screen_svg.specs.Grammar.{IsTextStyle, plain, styled, text_at, shape_at, IsText, seen, shaped, AreShapes, no_more, filled, text, link, IsTitle, untitled, titled, IsCursor, unseen, frame, IsPicture}
 use Rattle.screen_svg.proofs.XmlLemmas.{is_name_byte, IsName, HaveNames, IsNamed, read-xml}
 use Rattle.screen_svg.proofs.GrammarLemmas.{IsPicture-of}
 
@@ -47,12 +49,22 @@ HaveNames-style scheme plain = tt
 HaveNames-style scheme (styled colors others are more) = (refl, tt)
 
 module _ (scheme : Scheme) where
-  AreNamed-text : (x y long : ℕ) (style : List Attribute) (bytes : List ℕ) → IsTextStyle scheme style → AreNamed (text_at x y long style bytes)
+  AreNamed-text : (x y long : ℕ) (style : List Attribute) (bytes : List ℕ) → HaveNames style → AreNamed (text_at x y long style bytes)
   unfolding is_name_byte
-  AreNamed-text x y long style bytes is =
+  AreNamed-text x y long style bytes have =
       AreNamed-element (codes "text")
       ((attribute (codes "x") (decimal x) ∷ attribute (codes "y") (decimal y) ∷ attribute (codes "textLength") (decimal long) ∷ []) ++ style) bytes
-      refl (refl, (refl, (refl, HaveNames-style scheme is)))
+      refl (refl, (refl, (refl, have)))
+
+  AreNamed-run : {events : List Event} → IsText scheme events → AreNamed events
+  unfolding is_name_byte
+  AreNamed-run (seen x y long style bytes is has) = AreNamed-text x y long style bytes (HaveNames-style scheme is)
+  AreNamed-run (shaped x top y long characters style bytes is has) =
+      AreNamed-append (shape_at x top characters style) (text_at x y long (style ++ (class (codes "shape") ∷ [])) bytes)
+      (AreNamed-element (codes "path") (attribute (codes "d") (codes "M" ++ (pair x top ++ flat_map shape_of characters)) ∷ style) []
+      refl (refl, HaveNames-style scheme is))
+      (AreNamed-text x y long (style ++ (class (codes "shape") ∷ [])) bytes
+      (HaveNames-append style (class (codes "shape") ∷ []) (HaveNames-style scheme is) (refl, tt)))
 
   AreNamed-shapes : {events : List Event} → AreShapes scheme events → AreNamed events
   unfolding is_name_byte
@@ -60,11 +72,10 @@ module _ (scheme : Scheme) where
   AreNamed-shapes (filled column row columns color rest is are) =
       AreNamed-append (rectangle (box column row columns 1 ++ (attribute (codes "style") color ∷ []))) rest
       (AreNamed-rectangle column row columns 1 (attribute (codes "style") color) refl) (AreNamed-shapes are)
-  AreNamed-shapes (text x y long style bytes rest is has are) =
-      AreNamed-append (text_at x y long style bytes) rest (AreNamed-text x y long style bytes is) (AreNamed-shapes are)
-  AreNamed-shapes (link uri x y long style bytes rest may is has are) = (
+  AreNamed-shapes (text it rest is are) = AreNamed-append it rest (AreNamed-run is) (AreNamed-shapes are)
+  AreNamed-shapes (link uri it rest may is are) = (
     (refl, (refl, tt)),
-    AreNamed-append (text_at x y long style bytes) (end (codes "a") ∷ rest) (AreNamed-text x y long style bytes is) (refl, AreNamed-shapes are),
+    AreNamed-append it (end (codes "a") ∷ rest) (AreNamed-run is) (refl, AreNamed-shapes are),
   )
 
   AreNamed-rules : AreNamed (rules scheme)
@@ -110,7 +121,7 @@ AreNamed-picture scheme events is =
     let window = window_events is.window is.name is.columns in
     let page_box = rectangle (box 0 0 is.columns is.rows ++ (class (codes "page") ∷ [])) in
     subst AreNamed (sym is.whole) (
-      (refl, (refl, (refl, (refl, (refl, (refl, tt)))))),
+      (refl, (refl, (refl, (refl, (refl, (refl, (refl, (refl, tt)))))))),
       AreNamed-append is.title (rules scheme ++ (page_box ++ (window ++ shown))) (AreNamed-title is.is_title)
           (AreNamed-append (rules scheme) (page_box ++ (window ++ shown)) (AreNamed-rules scheme)
           (AreNamed-append page_box (window ++ shown) (AreNamed-rectangle 0 0 is.columns is.rows (class (codes "page")) refl)
@@ -119,8 +130,8 @@ AreNamed-picture scheme events is =
           (AreNamed-append is.cursor last (AreNamed-cursor is.is_cursor) (refl, tt)))))),
     )
 
-pub read-svg : (drawing : Drawing) (title font : List ℕ) (links : Table) (d : Display) → ((number : ℕ) → IsLink (link_at number links.places))
-    → read (svg drawing title font links d) ≡ picture drawing title font links d
-read-svg drawing title font links d are_links =
-    read-xml (picture drawing title font links d)
-    (AreNamed-picture drawing.scheme (picture drawing title font links d) (IsPicture-of drawing title font links d are_links))
+pub read-svg : (drawing : Drawing) (title font : List ℕ) (links : Table) (extent : Extent) (s : State) → ((number : ℕ) → IsLink (link_at number links.places))
+    → read (svg drawing title font links extent s) ≡ picture drawing title font links extent s
+read-svg drawing title font links extent s are_links =
+    read-xml (picture drawing title font links extent s)
+    (AreNamed-picture drawing.scheme (picture drawing title font links extent s) (IsPicture-of drawing title font links extent s are_links))

@@ -1,5 +1,5 @@
 -- The texts of a picture are those of the screen's runs.
-use Rattle.std.proofs.Common.{◌≡◌, ℕ, zero, suc, Bool, true, false, ◌&&◌, List, [], ◌∷◌, ◌++◌, codes, map, refl, sym, ap, ◌∙◌, append_assoc, append-nil}
+use Rattle.std.proofs.Common.{◌≡◌, ℕ, zero, suc, ◌+◌, Bool, true, false, ◌&&◌, List, [], ◌∷◌, ◌++◌, codes, map, refl, sym, ap, ◌∙◌, append_assoc, append-nil}
 use Rattle.std.specs.Prelude.{if◌then◌else◌}
 use Rattle.std.specs.List.{flat_map}
 use Rattle.ansi_html.specs.declared.scheme.Scheme.{Scheme}
@@ -8,13 +8,15 @@ use Rattle.ansi_html.specs.Links.{is_none}
 use Rattle.std.proofs.lemmas.Bool.{eqb-true}
 use Rattle.std.proofs.lemmas.List.{nil_from_length}
 use Rattle.std.specs.Prelude.{length}
-use Rattle.ansi_screen.specs.Display.{Display, row_cells}
+use Rattle.ansi_screen.specs.Display.{Display}
+use Rattle.ansi_screen.specs.State.{State}
 use Rattle.screen_html.specs.Links.{Kept, Table, link_at}
 use Rattle.screen_svg.specs.declared.drawing.Drawing.{Drawing}
+use Rattle.screen_svg.specs.declared.drawing.Extent.{Extent}
 use Rattle.screen_svg.specs.Characters.{text_of}
 use Rattle.screen_svg.specs.Xml.{Attribute, attribute, Event, start, byte, end}
-use Rattle.screen_svg.specs.Runs.{Run, run_columns, run_text, runs_of}
-use Rattle.screen_svg.specs.Picture.{element, rectangle, class, box, run_ground, text_place, text_style, text_element, linked, is_drawn, text as text_in, run_events, row_events, rows_events, cursor_column, cursor_events, page_rules, shape_rules, rules, title_element, dots, bar_attributes, bar, name_place, name, window_events, page, head, picture}
+use Rattle.screen_svg.specs.Runs.{Run, is_shaped, run_columns, run_text, runs_of}
+use Rattle.screen_svg.specs.Picture.{element, rectangle, class, box, run_ground, text_style, shape_place, shape_element, text_attributes, text_element, drawn_cells, rows_in, linked, is_drawn, text as text_in, run_events, row_events, rows_events, cursor_column, cursor_events, page_rules, shape_rules, rules, title_element, dots, bar_attributes, bar, name_place, name, window_events, page, head, picture}
 use Rattle.screen_svg.specs.Reading.{Text, text, outside, inside, texts_from, texts, run_texts, row_texts, rows_texts, window_texts, picture_texts}
 
 -- these events show these texts, whatever follows, and leave a reader in no link
@@ -79,12 +81,33 @@ module _ (scheme : Scheme) (links : List Kept) where
       by_case true = refl
       by_case false = refl
 
+  -- a shape shows no text, in a link neither
+  shape-passed : (link : List ℕ) (row : ℕ) (run : Run) (rest : List Event)
+      → texts_from (outside link) (shape_element scheme row run ++ rest) ≡ texts_from (outside link) rest
+  shape-passed link row run rest = by_case (is_shaped run.first)
+    where
+      attributes : List Attribute
+      attributes = attribute (codes "d") (shape_place row run) ∷ text_style scheme run.first.style
+
+      by_case : (has : Bool) → texts_from (outside link) ((if has then element (codes "path") attributes [] else []) ++ rest) ≡ texts_from (outside link) rest
+      by_case true = refl
+      by_case false = refl
+
+  -- the text of a run
+  text-met : (link : List ℕ) (row : ℕ) (run : Run) (rest : List Event)
+      → texts_from (outside link) (text_element scheme row run ++ rest)
+      ≡ text (text_attributes scheme row run) link (run_text run) ∷ texts_from (outside link) rest
+  text-met link row run rest =
+      let it = element (codes "text") (text_attributes scheme row run) (run_text run) in
+      ap (texts_from (outside link)) (append_assoc (shape_element scheme row run) it rest)
+      ∙ shape-passed link row run (it ++ rest) ∙ inside-bytes link (text_attributes scheme row run) [] (run_text run) (codes "text") rest
+
   Show-linked : (link : List ℕ) (row : ℕ) (run : Run)
-      → Show (linked link (text_element scheme row run)) (text (text_place row run ++ text_style scheme run.first.style) link (run_text run) ∷ [])
+      → Show (linked link (text_element scheme row run)) (text (text_attributes scheme row run) link (run_text run) ∷ [])
   Show-linked link row run rest = by_case (is_none link) refl
     where
       attributes : List Attribute
-      attributes = text_place row run ++ text_style scheme run.first.style
+      attributes = text_attributes scheme row run
 
       events : List Event
       events = text_element scheme row run
@@ -93,11 +116,10 @@ module _ (scheme : Scheme) (links : List Kept) where
           → texts_from (outside []) ((if none then events else (start (codes "a") (attribute (codes "href") link ∷ []) ∷ []) ++ (events ++ (end (codes "a") ∷ []))) ++ rest)
           ≡ text attributes link (run_text run) ∷ texts_from (outside []) rest
       by_case true none =
-          inside-bytes [] attributes [] (run_text run) (codes "text") rest
+          text-met [] row run rest
           ∙ ap (λ (l : List ℕ). text attributes l (run_text run) ∷ texts_from (outside []) rest) (sym (nil_from_length link (eqb-true (length link) 0 none)))
       by_case false some =
-          ap (texts_from (inside link attributes [])) (append_assoc (map byte (run_text run) ++ (end (codes "text") ∷ [])) (end (codes "a") ∷ []) rest)
-          ∙ inside-bytes link attributes [] (run_text run) (codes "text") (end (codes "a") ∷ rest)
+          ap (texts_from (outside link)) (append_assoc events (end (codes "a") ∷ []) rest) ∙ text-met link row run (end (codes "a") ∷ rest)
 
   Show-run_text : (row : ℕ) (run : Run) → Show (text_in scheme links row run) (run_texts scheme links row run)
   Show-run_text row run rest = by_case (is_drawn run.first)
@@ -107,7 +129,7 @@ module _ (scheme : Scheme) (links : List Kept) where
 
       by_case : (drawn : Bool)
           → texts_from (outside []) ((if drawn then linked link (text_element scheme row run) else []) ++ rest)
-          ≡ (if drawn then text (text_place row run ++ text_style scheme run.first.style) link (run_text run) ∷ [] else []) ++ texts_from (outside []) rest
+          ≡ (if drawn then text (text_attributes scheme row run) link (run_text run) ∷ [] else []) ++ texts_from (outside []) rest
       by_case true = Show-linked link row run rest
       by_case false = refl
 
@@ -117,39 +139,41 @@ module _ (scheme : Scheme) (links : List Kept) where
       Show-append (run_events scheme links row run) (flat_map (run_events scheme links row) runs) (run_texts scheme links row run) (flat_map (run_texts scheme links row) runs)
       (Show-append (run_ground row run) (text_in scheme links row run) [] (run_texts scheme links row run) (Show-ground row run) (Show-run_text row run)) (Show-runs row runs) rest
 
-  Show-rows : (count : ℕ) (d : Display) → Show (rows_events scheme links count d) (rows_texts scheme links count d)
-  Show-rows zero d rest = refl
-  Show-rows (suc row) d rest =
-      Show-append (rows_events scheme links row d) (row_events scheme links row (row_cells row d)) (rows_texts scheme links row d) (row_texts scheme links row (row_cells row d))
-      (Show-rows row d) (Show-runs row (runs_of (row_cells row d))) rest
+  Show-rows : (above count : ℕ) (s : State) → Show (rows_events scheme links above count s) (rows_texts scheme links above count s)
+  Show-rows above zero s rest = refl
+  Show-rows above (suc row) s rest =
+      let cells = drawn_cells above s row in
+      Show-append (rows_events scheme links above row s) (row_events scheme links row cells) (rows_texts scheme links above row s) (row_texts scheme links row cells)
+      (Show-rows above row s) (Show-runs row (runs_of cells)) rest
 
-Show-cursor : (wanted : Bool) (d : Display) → Show (cursor_events wanted d) []
-Show-cursor wanted d rest = by_case (wanted && d.is_visible)
+Show-cursor : (wanted : Bool) (above : ℕ) (d : Display) → Show (cursor_events wanted above d) []
+Show-cursor wanted above d rest = by_case (wanted && d.is_visible)
   where
     attributes : List Attribute
-    attributes = box (cursor_column d) d.cursor.row 1 1 ++ (class (codes "cursor") ∷ [])
+    attributes = box (cursor_column d) (above + d.cursor.row) 1 1 ++ (class (codes "cursor") ∷ [])
 
     by_case : (seen : Bool) → texts_from (outside []) ((if seen then rectangle attributes else []) ++ rest) ≡ texts_from (outside []) rest
     by_case true = refl
     by_case false = refl
 
-Show-head : (drawing : Drawing) (title font : List ℕ) (d : Display) → Show (head drawing title font d) (window_texts drawing.window title d.width)
-Show-head drawing title font d rest =
-    let window = window_events drawing.window title d.width in
-    let shown = window_texts drawing.window title d.width in
-    Show-append (title_element title) (rules drawing.scheme ++ (page d ++ window)) [] shown (Show-title title)
-    (Show-append (rules drawing.scheme) (page d ++ window) [] shown (Show-rules drawing.scheme)
-    (Show-append (page d) window [] shown (Show-rectangle (box 0 0 d.width d.height ++ (class (codes "page") ∷ []))) (Show-window drawing.window title d.width))) rest
+Show-head : (drawing : Drawing) (title font : List ℕ) (columns rows : ℕ) → Show (head drawing title font columns rows) (window_texts drawing.window title columns)
+Show-head drawing title font columns rows rest =
+    let paper = page columns rows in
+    let window = window_events drawing.window title columns in
+    let shown = window_texts drawing.window title columns in
+    Show-append (title_element title) (rules drawing.scheme ++ (paper ++ window)) [] shown (Show-title title)
+    (Show-append (rules drawing.scheme) (paper ++ window) [] shown (Show-rules drawing.scheme)
+    (Show-append paper window [] shown (Show-rectangle (box 0 0 columns rows ++ (class (codes "page") ∷ []))) (Show-window drawing.window title columns))) rest
 
-pub texts-picture : (drawing : Drawing) (title font : List ℕ) (links : Table) (d : Display)
-    → texts (picture drawing title font links d) ≡ picture_texts drawing title links d
-texts-picture drawing title font links d =
-    let before = head drawing title font d in
-    let rows = rows_events drawing.scheme links.places d.height d in
-    let cursor = cursor_events drawing.cursor d in
-    let named = window_texts drawing.window title d.width in
-    let shown = rows_texts drawing.scheme links.places d.height d in
-    Show-head drawing title font d (rows ++ (cursor ++ (end (codes "svg") ∷ [])))
+pub texts-picture : (drawing : Drawing) (title font : List ℕ) (links : Table) (extent : Extent) (s : State)
+    → texts (picture drawing title font links extent s) ≡ picture_texts drawing title links extent s
+texts-picture drawing title font links extent s =
+    let count = rows_in extent in
+    let rows = rows_events drawing.scheme links.places extent.above count s in
+    let cursor = cursor_events drawing.cursor extent.above s.display in
+    let named = window_texts drawing.window title s.display.width in
+    let shown = rows_texts drawing.scheme links.places extent.above count s in
+    Show-head drawing title font s.display.width count (rows ++ (cursor ++ (end (codes "svg") ∷ [])))
     ∙ ap (λ (l : List Text). named ++ l)
-    (Show-rows drawing.scheme links.places d.height d (cursor ++ (end (codes "svg") ∷ []))
-    ∙ ap (λ (l : List Text). shown ++ l) (Show-cursor drawing.cursor d (end (codes "svg") ∷ [])) ∙ append-nil shown)
+    (Show-rows drawing.scheme links.places extent.above count s (cursor ++ (end (codes "svg") ∷ []))
+    ∙ ap (λ (l : List Text). shown ++ l) (Show-cursor drawing.cursor extent.above s.display (end (codes "svg") ∷ [])) ∙ append-nil shown)

@@ -8,13 +8,16 @@ use Rattle.ansi_html.specs.declared.scheme.Scheme.{Scheme}
 use Rattle.ansi_html.specs.declared.scheme.Scheme.TheVariants.{Light, Dark, Both}
 use Rattle.ansi_html.specs.Html.{escaped_text}
 use Rattle.ansi_html.specs.Links.{is_visible, has_scheme, is_linkable}
-use Rattle.ansi_html.proofs.DeclarationLemmas.{is_safe, AreSafe, AreSafe-selected, AreSafe-style}
+use Rattle.ansi_html.proofs.DeclarationLemmas.{is_safe, AreSafe, AreSafe-append, AreSafe-selected, AreSafe-style}
 use Rattle.ansi_html.proofs.LineTagLemmas.{AreSafe-decimal}
 use Rattle.screen_svg.specs.Characters.{IsXmlText, text_of}
 use Rattle.screen_svg.specs.Xml.{Attribute, attribute, Event, start, byte, end, attribute_xml, event_xml, xml}
-use Rattle.screen_svg.specs.Picture.{element, box, class, rectangle, rules, circle, dots, bar_attributes, bar, name_place, name, window_events, page_rules, shape_rules}
-use Rattle.screen_svg.specs.Grammar.{IsGround, selected, inherited, IsTextStyle, plain, styled, text_at, AreShapes, no_more, filled, text, link, IsTitle, untitled, titled, IsCursor, unseen, frame, IsPicture}
+use Rattle.screen_svg.specs.Shapes.{shape_of}
+use Rattle.screen_svg.specs.Picture.{element, pair, box, class, rectangle, rules, circle, dots, bar_attributes, bar, name_place, name, window_events, page_rules, shape_rules}
+use Rattle.screen_svg.specs.Grammar.{IsGround, selected, inherited, IsTextStyle, plain, styled, text_at, shape_at, IsText, seen, shaped, AreShapes, no_more, filled, text, link, IsTitle, untitled, titled, IsCursor, unseen, frame, IsPicture}
 use Rattle.screen_svg.proofs.AddsLemmas.{xml-bytes}
+use Rattle.screen_svg.proofs.SafeLemmas.{AreSafe-pair}
+use Rattle.screen_svg.proofs.ShapeLemmas.{AreSafe-shape}
 use Rattle.screen_svg.proofs.CharacterLemmas.{is_printed, IsXmlText-nil, IsXmlText-append, IsXmlText-byte, IsXmlText-ascii, IsXmlText-safe, IsXmlText-escaped, IsXmlText-text}
 
 abbrev IsXml : List Event → Type 0
@@ -105,12 +108,34 @@ module _ (scheme : Scheme) where
   AreXml-style plain = tt
   AreXml-style (styled colors others are more) = ((refl, word (colors ++ others) (AreSafe-style scheme are more)), tt)
 
-  IsXml-text : (x y long : ℕ) (style : List Attribute) (bytes : List ℕ) → IsTextStyle scheme style → IsXmlText bytes → IsXml (text_at x y long style bytes)
+  IsXml-text : (x y long : ℕ) (style : List Attribute) (bytes : List ℕ) → AreXml style → IsXmlText bytes → IsXml (text_at x y long style bytes)
   unfolding is_safe
-  IsXml-text x y long style bytes is has =
+  IsXml-text x y long style bytes are has =
       IsXml-element (codes "text")
       ((attribute (codes "x") (decimal x) ∷ attribute (codes "y") (decimal y) ∷ attribute (codes "textLength") (decimal long) ∷ []) ++ style) bytes
-      refl ((refl, number x), ((refl, number y), ((refl, number long), AreXml-style is))) has
+      refl ((refl, number x), ((refl, number y), ((refl, number long), are))) has
+
+  AreSafe-characters : (characters : List ℕ) → AreSafe (flat_map shape_of characters)
+  AreSafe-characters [] = refl
+  AreSafe-characters (c ∷ characters) = AreSafe-append (shape_of c) (flat_map shape_of characters) (AreSafe-shape c) (AreSafe-characters characters)
+
+  IsXml-shape : (x y : ℕ) (characters : List ℕ) (style : List Attribute) → AreXml style → IsXml (shape_at x y characters style)
+  unfolding is_safe
+  IsXml-shape x y characters style are =
+      let shapes = flat_map shape_of characters in
+      let place = codes "M" ++ (pair x y ++ shapes) in
+      let safe : AreSafe place =
+      AreSafe-append (codes "M") (pair x y ++ shapes) refl (AreSafe-append (pair x y) shapes (AreSafe-pair x y) (AreSafe-characters characters)) in
+      IsXml-element (codes "path") (attribute (codes "d") place ∷ style) [] refl ((refl, word place safe), are) IsXmlText-nil
+
+  IsXml-run : {events : List Event} → IsText scheme events → IsXml events
+  unfolding is_safe
+  IsXml-run (seen x y long style bytes is has) = IsXml-text x y long style bytes (AreXml-style is) has
+  IsXml-run (shaped x top y long characters style bytes is has) =
+      let named = style ++ (class (codes "shape") ∷ []) in
+      IsXml-append (shape_at x top characters style) (text_at x y long named bytes) (IsXml-shape x top characters style (AreXml-style is))
+      (IsXml-text x y long named bytes
+      (AreXml-append style (class (codes "shape") ∷ []) (AreXml-style is) ((refl, word (codes "shape") refl), tt)) has)
 
   IsXml-shapes : {events : List Event} → AreShapes scheme events → IsXml events
   unfolding is_safe
@@ -118,13 +143,12 @@ module _ (scheme : Scheme) where
   IsXml-shapes (filled column row columns color rest is are) =
       IsXml-append (rectangle (box column row columns 1 ++ (attribute (codes "style") color ∷ []))) rest
       (IsXml-rectangle column row columns 1 (attribute (codes "style") color) refl (word color (ground-safe is))) (IsXml-shapes are)
-  IsXml-shapes (text x y long style bytes rest is has are) =
-      IsXml-append (text_at x y long style bytes) rest (IsXml-text x y long style bytes is has) (IsXml-shapes are)
-  IsXml-shapes (link uri x y long style bytes rest may is has are) =
+  IsXml-shapes (text it rest is are) = IsXml-append it rest (IsXml-run is) (IsXml-shapes are)
+  IsXml-shapes (link uri it rest may is are) =
       let href = attribute (codes "href") uri ∷ [] in
-      IsXml-append (start (codes "a") href ∷ []) (text_at x y long style bytes ++ (end (codes "a") ∷ rest))
+      IsXml-append (start (codes "a") href ∷ []) (it ++ (end (codes "a") ∷ rest))
       (IsXml-start (codes "a") href refl ((refl, linkable-xml uri may), tt))
-      (IsXml-append (text_at x y long style bytes) (end (codes "a") ∷ rest) (IsXml-text x y long style bytes is has)
+      (IsXml-append it (end (codes "a") ∷ rest) (IsXml-run is)
       (IsXml-append (end (codes "a") ∷ []) rest (IsXml-end (codes "a") refl) (IsXml-shapes are)))
 
 rules-xml : (scheme : Scheme) → list_all is_printed (page_rules scheme ++ shape_rules) ≡ true
@@ -177,12 +201,13 @@ IsXml-picture scheme events is =
     let window = window_events is.window is.name is.columns in
     let page_box = rectangle (box 0 0 is.columns is.rows ++ (class (codes "page") ∷ [])) in
     let attributes =
-    attribute (codes "xmlns") (codes "http://www.w3.org/2000/svg") ∷ attribute (codes "viewBox") is.view ∷ attribute (codes "font-family") is.font
-    ∷ attribute (codes "font-size") (codes "16.6") ∷ attribute (codes "xml:space") (codes "preserve") ∷ [] in
+    attribute (codes "xmlns") (codes "http://www.w3.org/2000/svg") ∷ attribute (codes "viewBox") is.view
+    ∷ attribute (codes "width") (decimal is.width) ∷ attribute (codes "height") (decimal is.height) ∷ attribute (codes "font-family") is.font
+    ∷ attribute (codes "font-size") (codes "16.61") ∷ attribute (codes "xml:space") (codes "preserve") ∷ [] in
     subst IsXml (sym is.whole)
     (IsXml-append (start (codes "svg") attributes ∷ []) (is.title ++ (rules scheme ++ (page_box ++ (window ++ shown))))
     (IsXml-start (codes "svg") attributes
-    refl ((refl, IsXmlText-ascii (codes "http://www.w3.org/2000/svg") refl), ((refl, is.is_view), ((refl, is.is_font), ((refl, word (codes "16.6") refl), ((refl, word (codes "preserve") refl), tt))))))
+    refl ((refl, IsXmlText-ascii (codes "http://www.w3.org/2000/svg") refl), ((refl, is.is_view), ((refl, number is.width), ((refl, number is.height), ((refl, is.is_font), ((refl, word (codes "16.61") refl), ((refl, word (codes "preserve") refl), tt))))))))
     (IsXml-append is.title (rules scheme ++ (page_box ++ (window ++ shown))) (IsXml-title is.is_title)
     (IsXml-append (rules scheme) (page_box ++ (window ++ shown)) (IsXml-rules scheme)
     (IsXml-append page_box (window ++ shown) (IsXml-rectangle 0 0 is.columns is.rows (class (codes "page")) refl (word (codes "page") refl))

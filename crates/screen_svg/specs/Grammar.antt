@@ -1,6 +1,7 @@
 -- The grammar of a picture, as a reader of XML meets it: which elements there are, which attributes they have, and what
 -- stands in them. Nothing else is in it, so no script, no style but those, and no reference but a link.
 use Rattle.std.specs.Prelude.{◌≡◌, ℕ, Bool, List, [], ◌∷◌, ◌++◌, codes, decimal, IsTrue}
+use Rattle.std.specs.List.{flat_map}
 use Rattle.ansi_html.specs.declared.contrast.Rgb.{Rgb}
 use Rattle.ansi_html.specs.declared.scheme.Scheme.{Scheme}
 use Rattle.ansi_html.specs.Css.{declared}
@@ -8,7 +9,8 @@ use Rattle.ansi_html.specs.Grammar.{AreColors, AreDeclarations}
 use Rattle.ansi_html.specs.Links.{is_linkable}
 use Rattle.screen_svg.specs.Characters.{IsXmlText}
 use Rattle.screen_svg.specs.Xml.{Attribute, attribute, Event, start, end}
-use Rattle.screen_svg.specs.Picture.{element, class, box, rectangle, rules, window_events}
+use Rattle.screen_svg.specs.Shapes.{shape_of}
+use Rattle.screen_svg.specs.Picture.{element, class, pair, box, rectangle, rules, window_events}
 
 -- the colour of a ground: one of red, green and blue, or that of the page's text
 pub data IsGround : List ℕ → Type 0 where
@@ -28,17 +30,30 @@ text_at x y long style text =
     ((attribute (codes "x") (decimal x) ∷ attribute (codes "y") (decimal y)
     ∷ attribute (codes "textLength") (decimal long) ∷ []) ++ style) text
 
+-- shapes of characters from a place on: numbers and commands alone
+abbrev pub shape_at : (x y : ℕ) → (characters : List ℕ) → (style : List Attribute) → List Event
+shape_at x y characters style =
+    element (codes "path")
+    (attribute (codes "d") (codes "M" ++ (pair x y ++ flat_map shape_of characters)) ∷ style) []
+
+-- a text that is seen; or shapes, and the text that they stand for
+pub data IsText (scheme : Scheme) : List Event → Type 0 where
+  seen : (x y long : ℕ) (style : List Attribute) (bytes : List ℕ) → IsTextStyle scheme style → IsXmlText bytes
+      → IsText scheme (text_at x y long style bytes)
+  shaped : (x top y long : ℕ) (characters : List ℕ) (style : List Attribute) (bytes : List ℕ)
+      → IsTextStyle scheme style → IsXmlText bytes
+      → IsText scheme
+      (shape_at x top characters style ++ text_at x y long (style ++ (class (codes "shape") ∷ [])) bytes)
+
 -- grounds, texts, and links of a text each
 pub data AreShapes (scheme : Scheme) : List Event → Type 0 where
   no_more : AreShapes scheme []
   filled : (column row columns : ℕ) (color : List ℕ) (rest : List Event) → IsGround color → AreShapes scheme rest
       → AreShapes scheme (rectangle (box column row columns 1 ++ (attribute (codes "style") color ∷ [])) ++ rest)
-  text : (x y long : ℕ) (style : List Attribute) (bytes : List ℕ) (rest : List Event) → IsTextStyle scheme style
-      → IsXmlText bytes → AreShapes scheme rest → AreShapes scheme (text_at x y long style bytes ++ rest)
-  link : (uri : List ℕ) (x y long : ℕ) (style : List Attribute) (bytes : List ℕ) (rest : List Event)
-      → IsTrue (is_linkable uri) → IsTextStyle scheme style → IsXmlText bytes → AreShapes scheme rest
+  text : (it rest : List Event) → IsText scheme it → AreShapes scheme rest → AreShapes scheme (it ++ rest)
+  link : (uri : List ℕ) (it rest : List Event) → IsTrue (is_linkable uri) → IsText scheme it → AreShapes scheme rest
       → AreShapes scheme
-      (start (codes "a") (attribute (codes "href") uri ∷ []) ∷ (text_at x y long style bytes ++ (end (codes "a") ∷ rest)))
+      (start (codes "a") (attribute (codes "href") uri ∷ []) ∷ (it ++ (end (codes "a") ∷ rest)))
 
 -- a title, or none; and the frame of a cursor, or none
 pub data IsTitle : List Event → Type 0 where
@@ -57,6 +72,8 @@ pub record IsPicture (scheme : Scheme) (events : List Event) : Type 0 where
   pub title : List Event
   pub columns : ℕ
   pub rows : ℕ
+  pub width : ℕ
+  pub height : ℕ
   pub window : Bool
   pub name : List ℕ
   pub shapes : List Event
@@ -69,7 +86,8 @@ pub record IsPicture (scheme : Scheme) (events : List Event) : Type 0 where
   pub whole : events
       ≡ (start (codes "svg")
       (attribute (codes "xmlns") (codes "http://www.w3.org/2000/svg") ∷ attribute (codes "viewBox") view
-      ∷ attribute (codes "font-family") font ∷ attribute (codes "font-size") (codes "16.6")
+      ∷ attribute (codes "width") (decimal width) ∷ attribute (codes "height") (decimal height)
+      ∷ attribute (codes "font-family") font ∷ attribute (codes "font-size") (codes "16.61")
       ∷ attribute (codes "xml:space") (codes "preserve") ∷ []) ∷ [])
       ++ (title ++ (rules scheme ++ (rectangle (box 0 0 columns rows ++ (class (codes "page") ∷ []))
       ++ (window_events window name columns ++ (shapes ++ (cursor ++ (end (codes "svg") ∷ [])))))))

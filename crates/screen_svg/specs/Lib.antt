@@ -1,5 +1,6 @@
 pub mod Xml
 pub mod Characters
+pub mod Shapes
 pub mod Runs
 pub mod Picture
 pub mod Grammar

@@ -5,13 +5,14 @@ use Rattle.std.specs.List.{flat_map, AllByRecursion}
 use Rattle.std.specs.Str.{bytes_eq}
 use Rattle.ansi_html.specs.declared.scheme.Scheme.{Scheme}
 use Rattle.ansi_screen.specs.declared.cell.Cell.{Cell}
-use Rattle.ansi_screen.specs.Display.{Display, row_cells}
+use Rattle.ansi_screen.specs.State.{State}
 use Rattle.screen_html.specs.Links.{Kept, Table, link_at}
 use Rattle.screen_svg.specs.declared.drawing.Drawing.{Drawing}
+use Rattle.screen_svg.specs.declared.drawing.Extent.{Extent}
 use Rattle.screen_svg.specs.Characters.{text_of}
 use Rattle.screen_svg.specs.Xml.{Attribute, Event, start, byte, end}
 use Rattle.screen_svg.specs.Runs.{Run, run_text, run_columns, goes_with, runs_of}
-use Rattle.screen_svg.specs.Picture.{text_place, text_style, is_drawn, name_place}
+use Rattle.screen_svg.specs.Picture.{text_attributes, is_drawn, drawn_cells, rows_in, name_place}
 
 pub record Text : Type 0 where
   pub attributes : List Attribute
@@ -51,30 +52,31 @@ texts events = texts_from (outside []) events
 abbrev pub run_texts : Scheme → List Kept → (row : ℕ) → Run → List Text
 run_texts scheme links row run =
     if is_drawn run.first
-    then text (text_place row run ++ text_style scheme run.first.style) (link_at run.first.link links) (run_text run) ∷ []
+    then text (text_attributes scheme row run) (link_at run.first.link links) (run_text run) ∷ []
     else []
 
 abbrev pub row_texts : Scheme → List Kept → (row : ℕ) → List Cell → List Text
 row_texts scheme links row cells = flat_map (run_texts scheme links row) (runs_of cells)
 
-abbrev pub rows_texts : Scheme → List Kept → (count : ℕ) → Display → List Text
-rows_texts scheme links zero d = []
-rows_texts scheme links (suc row) d =
-    rows_texts scheme links row d ++ row_texts scheme links row (row_cells row d)
+abbrev pub rows_texts : Scheme → List Kept → (above count : ℕ) → State → List Text
+rows_texts scheme links above zero s = []
+rows_texts scheme links above (suc row) s =
+    rows_texts scheme links above row s ++ row_texts scheme links row (drawn_cells above s row)
 
 -- and that of a window's bar
 abbrev pub window_texts : (wanted : Bool) → (title : List ℕ) → (width : ℕ) → List Text
 window_texts wanted title width = if wanted then text (name_place width) [] (text_of title) ∷ [] else []
 
-abbrev pub picture_texts : Drawing → (title : List ℕ) → Table → Display → List Text
-picture_texts drawing title links d =
-    window_texts drawing.window title d.width ++ rows_texts drawing.scheme links.places d.height d
+abbrev pub picture_texts : Drawing → (title : List ℕ) → Table → Extent → State → List Text
+picture_texts drawing title links extent s =
+    window_texts drawing.window title s.display.width
+    ++ rows_texts drawing.scheme links.places extent.above (rows_in extent) s
 
 -- Each run begins at the column after those of the runs before it.
 abbrev pub StandFrom : (column : ℕ) → List Run → Type 0
 StandFrom column [] = ⊤
 StandFrom column (run ∷ runs) = (run.column ≡ column) × StandFrom (column + run_columns run) runs
 
--- The cells of a run go with its first one: they have its style and its link, and each one byte and one column.
+-- The cells of a run go with its first one: they have its style and its link, and each one column, and one byte or a shape.
 abbrev pub IsRun : Run → Type 0
 IsRun run = AllByRecursion (λ cell. goes_with run.first cell ≡ true) run.others

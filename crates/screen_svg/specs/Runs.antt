@@ -1,22 +1,37 @@
 -- The runs of a row: cells that are drawn by one element.
-use Rattle.std.specs.Prelude.{ℕ, zero, suc, Bool, not, nat_lt, ◌&&◌, ◌==◌, List, [], ◌∷◌, length, take, if◌then◌else◌}
+use Rattle.std.specs.Prelude.{ℕ, zero, suc, Bool, not, nat_lt, ◌&&◌, ◌||◌, ◌==◌, List, [], ◌∷◌, length, take, if◌then◌else◌}
 use Rattle.std.specs.Bool.{beq}
 use Rattle.std.specs.List.{flat_map}
+use Rattle.ansi_style.specs.declared.style.Style.{Style}
 use Rattle.ansi_style.specs.Style.{are_equal}
+use Rattle.ansi_html.specs.Css.{is_underlined}
 use Rattle.ansi_screen.specs.declared.cell.Cell.{Cell}
 use Rattle.ansi_screen.specs.Cells.{is_right}
 use Rattle.ansi_screen.specs.Text.{is_unmarked, is_unprinted}
 use Rattle.screen_svg.specs.Characters.{cell_text}
+use Rattle.screen_svg.specs.Shapes.{has_shape}
 
 -- a cell of one column whose text is one byte
 abbrev pub is_single : Cell → Bool
 is_single cell = nat_lt cell.character 0x80 && (not (is_right cell.part) && is_unmarked cell.marks)
 
+-- A cell that is drawn as a shape: one character that has one, without a line under, over or through it.
+abbrev pub is_lined : Style → Bool
+is_lined style = is_underlined style.underline || (style.overlined || style.struck_out)
+
+unfoldable pub is_shaped : Cell → Bool
+is_shaped cell =
+    has_shape cell.character && (not (is_right cell.part) && (is_unmarked cell.marks && not (is_lined cell.style)))
+
+-- Two cells whose characters can stand in one element: of a byte each, or both shapes.
+abbrev pub are_of_a_kind : (first cell : Cell) → Bool
+are_of_a_kind first cell = (is_single first && is_single cell) || (is_shaped first && is_shaped cell)
+
 -- A cell goes on with the run of a first one: both are such, of one style and one link, and printed or not.
 unfoldable pub goes_with : (first cell : Cell) → Bool
 goes_with first cell =
-    is_single first && (is_single cell && (are_equal first.style cell.style && (first.link == cell.link
-    && beq (is_unprinted first) (is_unprinted cell))))
+    are_of_a_kind first cell && (are_equal first.style cell.style && (first.link == cell.link
+    && beq (is_unprinted first) (is_unprinted cell)))
 
 -- how many cells at the front do
 abbrev pub count_with : (first : Cell) → List Cell → ℕ

@@ -12,3 +12,10 @@ pub struct Drawing {
     /// The bar of a window above the screen, with the title.
     pub window: bool,
 }
+
+/// Which rows are drawn: so many of those that left the screen, the last ones, and then so many of its own, the first ones.
+#[derive(Clone, Copy)]
+pub struct Extent {
+    pub above: usize,
+    pub count: usize,
+}

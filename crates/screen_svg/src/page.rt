@@ -1,50 +1,43 @@
 //! What stands before the runs and after them, and the rows.
-ghost use Rattle.std.specs.Prelude.{◌≡◌, ◌≤◌, ◌*◌, ◌∷◌, [], codes};
+ghost use Rattle.std.specs.Prelude.{◌≡◌, ◌≤◌, ◌<◌, ◌∷◌, [], codes};
 ghost use Rattle.anstyle_parse.specs.Io.Output.{Adds};
 ghost use Rattle.screen_svg.specs.Characters.{text_of};
 ghost use Rattle.screen_svg.specs.Xml.{attribute, attribute_xml, start, xml};
-ghost use Rattle.screen_svg.specs.Picture.{pair, view, picture_attributes, title_element, page_rules, rules, page, bar, name, window_events, head, rows_events, cursor_column, cursor_events};
+ghost use Rattle.screen_svg.specs.Picture.{units_high, corner, view, picture_attributes, title_element, page_rules, rules, page, bar, name, window_events, head, cursor_column, cursor_events};
 
 use crate::characters::put_text;
 use crate::drawing::Drawing;
-use crate::runs::put_row;
-use crate::tags::{put_class_box, put_end, put_number};
+use crate::tags::{put_class_box, put_end, put_number, put_pair};
 use ansi_html::Scheme;
 use ansi_screen::Screen;
 use anstyle_parse::io::{Output, Sink};
-use screen_html::LinkTable;
 
-/// Writes two numbers.
-fn put_pair<W: Sink>(output: &mut Output<W>, first: u16, second: u16)
-    ensures { Adds W.Sink (pair first second) output.old output.new }
+/// How many units high the picture is.
+fn units_high(window: bool, rows: usize) -> u16
+    requires { rows ≤ 2000 }
+    ensures { result ≡ units_high window rows }
 {
-    output.put_decimal(first);
-    output.put(b" ");
-    output.put_decimal(second);
+    let height = 20 * rows as u16;
+    if window { height + 30 } else { height }
 }
 
-/// Writes the units that are seen.
-fn put_units<W: Sink>(output: &mut Output<W>, window: bool, screen: &Screen)
-    ensures { Adds W.Sink (view window screen.now.display) output.old output.new }
+/// Where it begins.
+fn corner(window: bool) -> &'static [u8]
+    ensures { result.now ≡ corner window }
 {
-    let width = 10 * screen.columns() as u16;
-    let height = 20 * screen.rows() as u16;
-    if window {
-        output.put(b"0 -30 ");
-        put_pair(output, width, height + 30);
-    } else {
-        output.put(b"0 0 ");
-        put_pair(output, width, height);
-    }
+    if window { b"0 -30 " } else { b"0 0 " }
 }
 
-/// Writes them as an attribute.
-fn put_view<W: Sink>(output: &mut Output<W>, window: bool, screen: &Screen)
-    ensures { Adds W.Sink (attribute_xml (attribute (codes "viewBox") (view window screen.now.display)))
+/// Writes the units that are seen, as an attribute.
+fn put_view<W: Sink>(output: &mut Output<W>, window: bool, columns: usize, rows: usize)
+    requires columns { columns ≤ 1000 }
+    requires rows { rows ≤ 2000 }
+    ensures { Adds W.Sink (attribute_xml (attribute (codes "viewBox") (view window columns rows)))
         output.old output.new }
 {
     output.put(b" viewBox=\"");
-    put_units(output, window, screen);
+    output.put(corner(window));
+    put_pair(output, 10 * columns as u16, units_high(window, rows));
     output.put(b"\"");
 }
 
@@ -58,15 +51,25 @@ fn put_font<W: Sink>(output: &mut Output<W>, font: &str)
 }
 
 /// Writes the start tag of all.
-fn put_picture_begin<W: Sink>(output: &mut Output<W>, drawing: Drawing, font: &str, screen: &Screen)
-    ensures { Adds W.Sink (xml (start (codes "svg") (picture_attributes drawing font.now screen.now.display) ∷ []))
+fn put_picture_begin<W: Sink>(
+    output: &mut Output<W>,
+    window: bool,
+    font: &str,
+    columns: usize,
+    rows: usize,
+)
+    requires columns { columns ≤ 1000 }
+    requires rows { rows ≤ 2000 }
+    ensures { Adds W.Sink (xml (start (codes "svg") (picture_attributes window font.now columns rows) ∷ []))
         output.old output.new }
 {
     output.put(b"<svg");
     output.put(b" xmlns=\"http://www.w3.org/2000/svg\"");
-    put_view(output, drawing.window, screen);
+    put_view(output, window, columns, rows);
+    put_number(output, b"width", 10 * columns as u16);
+    put_number(output, b"height", units_high(window, rows));
     put_font(output, font);
-    output.put(b" font-size=\"16.6\" xml:space=\"preserve\"");
+    output.put(b" font-size=\"16.61\" xml:space=\"preserve\"");
     output.put(b">");
 }
 
@@ -105,17 +108,19 @@ fn put_rules<W: Sink>(output: &mut Output<W>, scheme: Scheme)
     output.put(b"<style>");
     output.put(page_rules(scheme));
     output.put(
-        b"text,rect,circle{fill:currentColor}text{white-space:pre}a{color:inherit}\
+        b"text,path,rect,circle{fill:currentColor}text{white-space:pre}a{color:inherit}.shape{fill:none}\
         .cursor{fill:none;stroke:currentColor}circle{fill-opacity:.15}.name{text-anchor:middle}",
     );
     put_end(output, b"style");
 }
 
 /// Writes the page behind all cells.
-fn put_page<W: Sink>(output: &mut Output<W>, screen: &Screen)
-    ensures { Adds W.Sink (xml (page screen.now.display)) output.old output.new }
+fn put_page<W: Sink>(output: &mut Output<W>, columns: usize, rows: usize)
+    requires columns { columns ≤ 1000 }
+    requires rows { rows ≤ 2000 }
+    ensures { Adds W.Sink (xml (page columns rows)) output.old output.new }
 {
-    put_class_box(output, 0, 0, screen.columns(), screen.rows(), b"page");
+    put_class_box(output, 0, 0, columns, rows, b"page");
 }
 
 /// Writes the strip of a window's bar.
@@ -164,36 +169,25 @@ pub(crate) fn put_head<W: Sink>(
     drawing: Drawing,
     title: &str,
     font: &str,
-    screen: &Screen,
+    columns: usize,
+    rows: usize,
 )
-    ensures { Adds W.Sink (xml (head drawing title.now font.now screen.now.display)) output.old output.new }
+    requires columns { columns ≤ 1000 }
+    requires rows { rows ≤ 2000 }
+    ensures { Adds W.Sink (xml (head drawing title.now font.now columns rows)) output.old output.new }
 {
-    put_picture_begin(output, drawing, font, screen);
+    put_picture_begin(output, drawing.window, font, columns, rows);
     put_title(output, title);
     put_rules(output, drawing.scheme);
-    put_page(output, screen);
-    put_window(output, drawing.window, title, screen.columns());
-}
-
-/// Writes the rows.
-pub(crate) fn put_rows<W: Sink>(
-    output: &mut Output<W>,
-    scheme: Scheme,
-    links: &LinkTable,
-    screen: &Screen,
-)
-    ensures { Adds W.Sink (xml (rows_events scheme links.now.places screen.now.display.height screen.now.display))
-        output.old output.new }
-{
-    for row in 0..screen.rows() {
-        put_row(output, scheme, links, row, screen.row(row));
-    }
+    put_page(output, columns, rows);
+    put_window(output, drawing.window, title, columns);
 }
 
 /// The row and the column of the cell that the cursor's frame is round.
-fn cursor_cell(screen: &Screen) -> (usize, usize)
+pub(crate) fn cursor_cell(screen: &Screen) -> (usize, usize)
     ensures row { result.0 ≡ screen.now.display.cursor.row }
     ensures column { result.1 ≡ cursor_column screen.now.display }
+    ensures within { result.0 < screen.now.display.height }
     ensures few_rows { result.0 ≤ 1000 }
     ensures few_columns { result.1 ≤ 1000 }
 {
@@ -202,12 +196,18 @@ fn cursor_cell(screen: &Screen) -> (usize, usize)
     (place.row, place.column.min(last))
 }
 
-/// Writes the cursor, where it is wanted and the screen shows it.
-pub(crate) fn put_cursor<W: Sink>(output: &mut Output<W>, wanted: bool, screen: &Screen)
-    ensures { Adds W.Sink (xml (cursor_events wanted screen.now.display)) output.old output.new }
+/// Writes the cursor, where it is wanted and the screen shows it, so many rows further down.
+pub(crate) fn put_cursor<W: Sink>(
+    output: &mut Output<W>,
+    wanted: bool,
+    above: usize,
+    screen: &Screen,
+)
+    requires { above ≤ 1000 }
+    ensures { Adds W.Sink (xml (cursor_events wanted above screen.now.display)) output.old output.new }
 {
     if wanted && screen.is_cursor_visible() {
         let (row, column) = cursor_cell(screen);
-        put_class_box(output, column, row, 1, 1, b"cursor");
+        put_class_box(output, column, above + row, 1, 1, b"cursor");
     }
 }

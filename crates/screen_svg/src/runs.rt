@@ -4,24 +4,18 @@ ghost use Rattle.std.specs.List.{flat_map};
 ghost use Rattle.anstyle_parse.specs.Io.Output.{Adds};
 ghost use Rattle.ansi_html.specs.Css.{ground_css};
 ghost use Rattle.screen_svg.specs.Xml.{attribute, attribute_xml, xml};
-ghost use Rattle.screen_svg.specs.Runs.{is_single, goes_with, count_with, run_of};
-ghost use Rattle.screen_svg.specs.Picture.{is_drawn, run_ground, text_columns, text_style, text_place, text_element, link_begin, linked, text, row_events};
+ghost use Rattle.screen_svg.specs.Runs.{goes_with, count_with, run_of};
+ghost use Rattle.screen_svg.specs.Picture.{is_drawn, run_ground, link_begin, linked, text_element, text, row_events};
 ghost use Rattle.ansi_screen.specs.Text.{is_unprinted};
 
-use crate::tags::{put_attribute, put_box, put_end, put_number};
-use crate::text::{put_cell, put_cells};
-use ansi_html::{Scheme, has_ground, put_declarations, put_ground};
+use crate::elements::{put_shape, put_text};
+use crate::kinds::are_of_a_kind;
+use crate::tags::{put_attribute, put_box, put_end};
+use ansi_html::{Scheme, has_ground, put_ground};
 use ansi_screen::{Cell, Marks, Part};
 use ansi_style::Style;
 use anstyle_parse::io::{Output, Sink};
 use screen_html::LinkTable;
-
-/// Whether it is a cell of one column whose text is one byte.
-fn is_single(cell: &Cell) -> bool
-    ensures { result ≡ is_single cell.now }
-{
-    cell.character.is_ascii() && !cell.is_right() && matches!(cell.marks, Marks::Unmarked)
-}
 
 /// Whether nothing was printed there, or what was is erased.
 #[tactic(auto, unfolding(ansi_screen::specs::Text::is_unprinted))]
@@ -36,8 +30,7 @@ fn is_unprinted(cell: &Cell) -> bool
 fn goes_with(first: &Cell, cell: &Cell) -> bool
     ensures { result ≡ goes_with first.now cell.now }
 {
-    is_single(first)
-        && is_single(cell)
+    are_of_a_kind(first, cell)
         && first.style.is_same(&cell.style)
         && first.link == cell.link
         && is_unprinted(first) == is_unprinted(cell)
@@ -71,7 +64,7 @@ fn put_run_ground<W: Sink>(
     first: &Cell,
     others: &[Cell],
 )
-    requires row { row < 1000 }
+    requires row { row < 2000 }
     requires columns { column + length others.now < 1000 }
     ensures { Adds W.Sink (xml (run_ground row (run_of column first.now others.now))) output.old output.new }
 {
@@ -93,53 +86,7 @@ fn put_ground_style<W: Sink>(output: &mut Output<W>, style: &Style)
     output.put(b"\"");
 }
 
-/// How many columns the text of a run takes.
-fn text_columns(first: &Cell, others: &[Cell]) -> usize
-    requires { length others.now < 1000 }
-    ensures columns { (column : ℕ) → result ≡ text_columns (run_of column first.now others.now) }
-    ensures few { result ≤ 1000 }
-{
-    if matches!(first.part, Part::Left) {
-        2
-    } else {
-        others.len() + 1
-    }
-}
-
-/// Writes where the text of a run stands, and how many columns it takes.
-fn put_text_place<W: Sink>(
-    output: &mut Output<W>,
-    row: usize,
-    column: usize,
-    first: &Cell,
-    others: &[Cell],
-)
-    requires row { row < 1000 }
-    requires columns { column + length others.now < 1000 }
-    ensures { Adds W.Sink (flat_map attribute_xml (text_place row (run_of column first.now others.now)))
-        output.old output.new }
-{
-    put_number(output, b"x", 10 * column as u16);
-    put_number(output, b"y", 20 * row as u16 + 15);
-    put_number(
-        output,
-        b"textLength",
-        10 * text_columns(first, others) as u16,
-    );
-}
-
-/// Writes the declarations of a style, unless it is plain.
-fn put_text_style<W: Sink>(output: &mut Output<W>, scheme: Scheme, style: &Style)
-    ensures { Adds W.Sink (flat_map attribute_xml (text_style scheme style.now)) output.old output.new }
-{
-    if !style.is_same(&Style::default()) {
-        output.put(b" style=\"");
-        put_declarations(output, scheme, style);
-        output.put(b"\"");
-    }
-}
-
-/// Writes the text of a run.
+/// Writes the text of a run, and before it its shapes, where it has some.
 fn put_text_element<W: Sink>(
     output: &mut Output<W>,
     scheme: Scheme,
@@ -148,17 +95,12 @@ fn put_text_element<W: Sink>(
     first: &Cell,
     others: &[Cell],
 )
-    requires row { row < 1000 }
+    requires row { row < 2000 }
     requires columns { column + length others.now < 1000 }
     ensures { Adds W.Sink (xml (text_element scheme row (run_of column first.now others.now))) output.old output.new }
 {
-    output.put(b"<text");
-    put_text_place(output, row, column, first, others);
-    put_text_style(output, scheme, &first.style);
-    output.put(b">");
-    put_cell(output, *first);
-    put_cells(output, others);
-    put_end(output, b"text");
+    put_shape(output, scheme, row, column, first, others);
+    put_text(output, scheme, row, column, first, others);
 }
 
 /// Writes the beginning of a link.
@@ -180,7 +122,7 @@ fn put_linked<W: Sink>(
     first: &Cell,
     others: &[Cell],
 )
-    requires row { row < 1000 }
+    requires row { row < 2000 }
     requires columns { column + length others.now < 1000 }
     ensures { Adds W.Sink (xml (linked uri.now (text_element scheme row (run_of column first.now others.now))))
         output.old output.new }
@@ -204,7 +146,7 @@ fn put_run_text<W: Sink>(
     first: &Cell,
     others: &[Cell],
 )
-    requires row { row < 1000 }
+    requires row { row < 2000 }
     requires columns { column + length others.now < 1000 }
     ensures { Adds W.Sink (xml (text scheme links.now.places row (run_of column first.now others.now)))
         output.old output.new }
@@ -223,7 +165,7 @@ pub(crate) fn put_row<W: Sink>(
     row: usize,
     cells: &[Cell],
 )
-    requires row { row < 1000 }
+    requires row { row < 2000 }
     requires columns { length cells.now ≤ 1000 }
     ensures { Adds W.Sink (xml (row_events scheme links.now.places row cells.now)) output.old output.new }
 {

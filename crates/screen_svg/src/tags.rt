@@ -3,7 +3,7 @@ ghost use Rattle.std.specs.Prelude.{◌≤◌, ◌++◌, ◌∷◌, [], decimal}
 ghost use Rattle.std.specs.List.{flat_map};
 ghost use Rattle.anstyle_parse.specs.Io.Output.{Adds};
 ghost use Rattle.screen_svg.specs.Xml.{attribute, attribute_xml, end, xml};
-ghost use Rattle.screen_svg.specs.Picture.{box, class, rectangle};
+ghost use Rattle.screen_svg.specs.Picture.{box, class, pair, rectangle};
 
 use ansi_html::put_escaped;
 use anstyle_parse::io::{Output, Sink};
@@ -30,6 +30,15 @@ pub(crate) fn put_number<W: Sink>(output: &mut Output<W>, name: &[u8], number: u
     output.put(b"\"");
 }
 
+/// Writes two numbers.
+pub(crate) fn put_pair<W: Sink>(output: &mut Output<W>, first: u16, second: u16)
+    ensures { Adds W.Sink (pair first second) output.old output.new }
+{
+    output.put_decimal(first);
+    output.put(b" ");
+    output.put_decimal(second);
+}
+
 /// Writes an end tag.
 pub(crate) fn put_end<W: Sink>(output: &mut Output<W>, name: &[u8])
     ensures { Adds W.Sink (xml (end name.now ∷ [])) output.old output.new }
@@ -48,9 +57,9 @@ pub(crate) fn put_box<W: Sink>(
     rows: usize,
 )
     requires column { column ≤ 1000 }
-    requires row { row ≤ 1000 }
+    requires row { row ≤ 2000 }
     requires columns { columns ≤ 1000 }
-    requires rows { rows ≤ 1000 }
+    requires rows { rows ≤ 2000 }
     ensures { Adds W.Sink (flat_map attribute_xml (box column row columns rows)) output.old output.new }
 {
     put_number(output, b"x", 10 * column as u16);
@@ -69,9 +78,9 @@ pub(crate) fn put_class_box<W: Sink>(
     name: &[u8],
 )
     requires column { column ≤ 1000 }
-    requires row { row ≤ 1000 }
+    requires row { row ≤ 2000 }
     requires columns { columns ≤ 1000 }
-    requires rows { rows ≤ 1000 }
+    requires rows { rows ≤ 2000 }
     ensures { Adds W.Sink (xml (rectangle (box column row columns rows ++ (class name.now ∷ []))))
         output.old output.new }
 {

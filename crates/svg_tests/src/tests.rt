@@ -6,7 +6,7 @@ use anstyle_parse::io::{Fault, FromWrite, Output};
 use anstyle_parse::{Parser, Utf8Parser};
 use screen_html::LinkTable;
 use screen_svg::laws::{pictures, runs};
-use screen_svg::{Drawing, FONT, write_svg};
+use screen_svg::{Drawing, FONT, MOST_ABOVE, write_shown, write_svg};
 use std::alloc::{AllocError, AllocGlobal, Global};
 use std::process::Abort;
 
@@ -71,19 +71,19 @@ const LIGHT: Drawing = Drawing {
 };
 
 const OF_LIGHT: &[u8] =
-    b"<svg xmlns=\"http://www.w3.org/2000/svg\" viewBox=\"0 0 40 20\" font-family=\"F\" \
-    font-size=\"16.6\" xml:space=\"preserve\">\
-    <style>svg{color-scheme:light;color:#000000}.page{color:#ffffff}.bar{color:#d9d9d9}text,rect,circle{fill:currentColor}\
-    text{white-space:pre}a{color:inherit}.cursor{fill:none;stroke:currentColor}circle{fill-opacity:.15}\
+    b"<svg xmlns=\"http://www.w3.org/2000/svg\" viewBox=\"0 0 40 20\" width=\"40\" height=\"20\" \
+    font-family=\"F\" font-size=\"16.61\" xml:space=\"preserve\">\
+    <style>svg{color-scheme:light;color:#000000}.page{color:#ffffff}.bar{color:#d9d9d9}\
+    text,path,rect,circle{fill:currentColor}text{white-space:pre}a{color:inherit}.shape{fill:none}.cursor{fill:none;stroke:currentColor}circle{fill-opacity:.15}\
     .name{text-anchor:middle}</style><rect x=\"0\" y=\"0\" width=\"40\" height=\"20\" class=\"page\"></rect>\
     <text x=\"0\" y=\"15\" textLength=\"20\" style=\"font-weight:bold;\">&lt;b</text>\
     <text x=\"20\" y=\"15\" textLength=\"20\">\xe4\xb8\xad</text></svg>";
 
 const IN_WINDOW: &[u8] =
-    b"<svg xmlns=\"http://www.w3.org/2000/svg\" viewBox=\"0 -30 40 50\" font-family=\"F\" \
-    font-size=\"16.6\" xml:space=\"preserve\"><title>&amp;\xef\xbf\xbd</title>\
-    <style>svg{color-scheme:dark;color:#ffffff}.page{color:#1e1e1e}.bar{color:#3b3b3b}text,rect,circle{fill:currentColor}\
-    text{white-space:pre}a{color:inherit}.cursor{fill:none;stroke:currentColor}circle{fill-opacity:.15}\
+    b"<svg xmlns=\"http://www.w3.org/2000/svg\" viewBox=\"0 -30 40 50\" width=\"40\" height=\"50\" \
+    font-family=\"F\" font-size=\"16.61\" xml:space=\"preserve\"><title>&amp;\xef\xbf\xbd</title>\
+    <style>svg{color-scheme:dark;color:#ffffff}.page{color:#1e1e1e}.bar{color:#3b3b3b}\
+    text,path,rect,circle{fill:currentColor}text{white-space:pre}a{color:inherit}.shape{fill:none}.cursor{fill:none;stroke:currentColor}circle{fill-opacity:.15}\
     .name{text-anchor:middle}</style><rect x=\"0\" y=\"0\" width=\"40\" height=\"20\" class=\"page\"></rect>\
     <rect x=\"0\" y=\"-30\" width=\"40\" height=\"30\" class=\"bar\"></rect>\
     <circle cx=\"20\" cy=\"-15\" r=\"6\"></circle><circle cx=\"40\" cy=\"-15\" r=\"6\"></circle>\
@@ -107,6 +107,44 @@ fn drawings(rt: HostRuntime) {
     assert!(rt; FONT.ends_with("monospace"));
     pictures();
     runs();
+}
+
+/// Two cells of line drawing, and what two rows of letters showed.
+const OF_LINES: &[u8] = b"<path d=\"M0 0m0 10h10v1h-10zm10-10m5 0h1v20h-1zm5 0\"></path>\
+    <text x=\"0\" y=\"15\" textLength=\"20\" class=\"shape\">\xe2\x94\x80\xe2\x94\x82</text></svg>";
+
+const SHOWN: &[u8] = b"<text x=\"0\" y=\"15\" textLength=\"10\">a</text>\
+    <text x=\"0\" y=\"35\" textLength=\"10\">b</text></svg>";
+
+/// The picture of all that such a screen showed which keeps the rows that left it.
+fn all_drawn(alloc: Global, bytes: &[u8]) -> Result<Ran, AllocError> {
+    let mut screen = Screen::with_history(alloc, 4, 1, MOST_ABOVE)?;
+    let mut parser = Parser::<Utf8Parser>::new();
+    for byte in bytes {
+        parser.advance(&mut screen, *byte);
+    }
+    let links = LinkTable::new(alloc)?;
+    let (writer, answer) = write_shown(&screen, &links, LIGHT, "", "F", memory(alloc)).finish();
+    Ok((writer.into_inner(), answer))
+}
+
+fn assert_ends(rt: &impl Abort, ran: Result<Ran, AllocError>, wanted: &[u8]) {
+    match ran {
+        Ok((text, answer)) => {
+            assert_eq!(rt; answer, Ok(()));
+            assert!(rt; text.as_slice().ends_with(wanted));
+            drop(text);
+        }
+        Err(_) => assert!(rt; false),
+    }
+}
+
+// Line drawing is in the middle of its cell (code chart U+2500), and a row that has left stands above the others.
+#[test]
+fn shapes_and_rows(rt: HostRuntime) {
+    let lines = "\u{2500}\u{2502}".as_bytes();
+    assert_ends(&rt, drawn(rt.alloc(), lines, LIGHT, "", "F"), OF_LINES);
+    assert_ends(&rt, all_drawn(rt.alloc(), b"a\r\nb"), SHOWN);
 }
 
 /// Bold, on a red ground.

@@ -1,7 +1,7 @@
 -- What was read leads to the screen and its links, which are drawn.
 use Rattle.std.proofs.Common.{ap, ◌∙◌}
 use Rattle.ansi2svg.specs.declared.picture.Linked.{Linked}
-use Rattle.ansi2svg.proofs.CallLemmas.{screen-led, links-led}
+use Rattle.ansi2svg.proofs.CallLemmas.{screen-led, links-led, is_all-led}
 use Rattle.ansi2svg.proofs.picture.draw_to_end.Goals as goal
 
 pub returns : goal.returns
@@ -16,6 +16,7 @@ returns g c =
       made = taken.received.1;
       screen = ap (λ (linked : Linked). linked.screen) led ∙ screen-led calls c.args.linked.now;
       links = ap (λ (linked : Linked). linked.links) led ∙ links-led calls c.args.linked.now;
-      written = c.write_svg-output.ensures.added;
+      is_all = ap (λ (linked : Linked). linked.is_all) led ∙ is_all-led calls c.args.linked.now;
+      written = c.drawn.ensures;
       ends = taken.ends;
     }

@@ -1,25 +1,12 @@
-use Rattle.std.proofs.Common.{◌++◌, codes}
-use Rattle.std.specs.List.{flat_map}
-use Rattle.screen_svg.specs.Characters.{cell_text}
-use Rattle.screen_svg.specs.Runs.{run_of}
-use Rattle.screen_svg.specs.Picture.{text_place, text_style}
-use Rattle.screen_svg.proofs.AddsLemmas.{Adds-attributes, Adds-escaped, Adds-start, Adds-element}
+use Rattle.std.proofs.Common.{codes}
+use Rattle.screen_svg.specs.Runs.{run_of, run_text}
+use Rattle.screen_svg.specs.Picture.{element, shape_element, text_attributes}
+use Rattle.screen_svg.proofs.AddsLemmas.{Adds-xml}
 use Rattle.screen_svg.proofs.runs.put_text_element.Goals as goal
 
 pub returns : goal.returns
 returns g c =
-    let first = c.args.first.now in
-    let others = c.args.others.now in
-    let place = text_place c.args.row (run_of c.args.column first others) in
-    let style = text_style c.args.scheme first.style in
-    let start = c.args.output.now in
-    let placed = c.put_text_place.new.output in
-    let styled = c.put_text_style.new.output in
-    let begun = c.put-2.new.self in
-    let texted = c.put_cells.new.output in
-    Adds-element g.W.Sink (codes "text") (place ++ style) (cell_text first ++ flat_map cell_text others) start begun texted c.put_end.new.output
-    (Adds-start g.W.Sink (codes "text") (place ++ style) start c.put.new.self styled begun c.put.ensures
-    (Adds-attributes g.W.Sink place style c.put.new.self placed styled c.put_text_place.ensures c.put_text_style.ensures)
-    c.put-2.ensures)
-    (Adds-escaped g.W.Sink (cell_text first) (flat_map cell_text others) begun c.put_cell.new.output texted c.put_cell.ensures c.put_cells.ensures)
-    c.put_end.ensures
+    let run = run_of c.args.column c.args.first.now c.args.others.now in
+    let text = element (codes "text") (text_attributes c.args.scheme c.args.row run) (run_text run) in
+    Adds-xml g.W.Sink (shape_element c.args.scheme c.args.row run) text c.args.output.now c.put_shape.new.output c.put_text.new.output
+    c.put_shape.ensures c.put_text.ensures

@@ -4,7 +4,7 @@ use Rattle.screen_svg.specs.Xml.{Attribute, attribute, attribute_xml}
 use Rattle.screen_svg.specs.Runs.{run_of}
 use Rattle.screen_svg.specs.Picture.{text_columns}
 use Rattle.screen_svg.proofs.AddsLemmas.{Adds-more, Adds-last}
-use Rattle.screen_svg.proofs.runs.put_text_place.Goals as goal
+use Rattle.screen_svg.proofs.elements.put_text_place.Goals as goal
 
 pub returns : goal.returns
 returns g c =

@@ -9,7 +9,7 @@ use Rattle.ansi_html.proofs.DeclarationLemmas.{escaped_text-safe, AreSafe-css}
 use Rattle.screen_svg.specs.Xml.{Attribute, attribute, attribute_xml}
 use Rattle.screen_svg.proofs.AddsLemmas.{Adds-attribute, Adds-last}
 use Rattle.screen_svg.proofs.ChoiceLemmas.{unchosen}
-use Rattle.screen_svg.proofs.runs.put_text_style.Goals as goal
+use Rattle.screen_svg.proofs.elements.put_text_style.Goals as goal
 
 pub returns-then-not-is_same : goal.returns-then-not-is_same
 returns-then-not-is_same g c =

@@ -1,6 +1,6 @@
 use Rattle.std.proofs.Common.{◌++◌, codes, decimal}
 use Rattle.anstyle_parse.proofs.Written.Output.{Adds-append}
-use Rattle.screen_svg.proofs.page.put_pair.Goals as goal
+use Rattle.screen_svg.proofs.tags.put_pair.Goals as goal
 
 pub returns : goal.returns
 returns g c =

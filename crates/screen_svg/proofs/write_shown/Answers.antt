@@ -1,0 +1,10 @@
+use Rattle.std.proofs.Common.{subst}
+use Rattle.anstyle_parse.specs.Io.Output.{Adds}
+use Rattle.screen_svg.specs.declared.drawing.Extent.{Extent}
+use Rattle.screen_svg.specs.Picture.{svg}
+use Rattle.screen_svg.proofs.write_shown.Goals as goal
+
+pub returns : goal.returns
+returns g c =
+    subst (λ (extent : Extent). Adds g.W.Sink (svg c.args.drawing c.args.title.now c.args.font.now c.args.links.now extent c.args.screen.now) c.args.output c.write_rows.result)
+    c.all_shown.ensures.extent c.write_rows.ensures

@@ -1,10 +1,17 @@
 -- Sixteen bytes, tested at once.
-use Rattle.std.proofs.Common.{◌≡◌, bit_and, bit_or, ℕ, ◌+◌, ◌-◌, ◌%◌, ◌^◌, Bool, cond, eqb, leb, List, [], ◌∷◌, length, map, replicate, refl, ap, ap₂, ◌∙◌, arith, w8, Fits}
+use lib.Count.{count_trailing_zeros}
+use Rattle.std.proofs.Common.{◌≡◌, bit_and, bit_or, ℕ, ◌+◌, ◌-◌, ◌≤◌, ◌%◌, ◌^◌, Bool, true, false, cond, eqb, leb, List, [], ◌∷◌, length, map, replicate, take, refl, ap, ap₂, ◌∙◌, subst, arith, w8, Fits}
 use Rattle.std.specs.Prelude.{not}
+use Rattle.std.specs.List.{prefix_len}
 use Rattle.std.specs.Simd.Lanes.{zip2, mask_l, top, Each1}
-use Rattle.std.proofs.lemmas.List.{length-map}
-use Rattle.std.proofs.lemmas.Simd.{zip2_splat, splat_is_map, zip2_of_maps, mask_l-mod}
+use Rattle.std.proofs.lemmas.Bool.{leb-true}
+use Rattle.std.proofs.lemmas.List.{length-map, take-take}
+use Rattle.std.proofs.lemmas.Simd.{zip2_splat, splat_is_map, zip2_of_maps, mask_l-mod, first_set_mask_l}
 use Rattle.anstyle_parse.specs.Stream.Bytes.{is_within}
+use Rattle.anstyle_parse.specs.Stream.Items.{EachIs}
+use Rattle.anstyle_parse.proofs.Bytes.Passing.{EachIs-weaker}
+use Rattle.anstyle_parse.proofs.Lists.Parts.{AllByRecursion-take}
+use Rattle.anstyle_parse.proofs.Machine.Lanes.{EachIs-prefix}
 use Rattle.anstyle_parse.proofs.Machine.Table.{same_below}
 use Rattle.safe_text.specs.Plain.{is_plain}
 
@@ -31,6 +38,10 @@ other_lanes [] fits = refl
 other_lanes (b ∷ bytes) fits =
     ap₂ (λ x xs. x ∷ xs) (same_below (λ n. top 7 (other_lane n)) (λ n. not (is_plain n)) 0x100 b refl fits.0.fits) (other_lanes bytes fits.1)
 
+not-not : (t : Bool) → not (not t) ≡ true → t ≡ true
+not-not true is = refl
+not-not false is = is
+
 module _ (bytes : List ℕ) (long : length bytes ≡ 16) where
   outside : (from count : ℕ) → zip2 at_most (replicate 16 count) (zip2 minus bytes (replicate 16 from)) ≡ map (λ b. at_most count (minus b from)) bytes
   outside from count = zip2_of_maps at_most (λ b. count) (λ b. minus b from) bytes (splat_is_map bytes 16 count long) (zip2_splat minus bytes 16 from long)
@@ -45,3 +56,17 @@ module _ (bytes : List ℕ) (long : length bytes ≡ 16) where
       let is = zip2_of_maps bit_or (λ b. bit_and (at_most 0x5F (minus b 0x20)) (at_most 2 (minus b 0x09))) (λ b. hit b 0x3C) bytes unshown (zip2_splat hit bytes 16 0x3C long) in
       ap (λ l. mask_l l % 2 ^ 64) (ap (map (top 7)) is ∙ other_lanes bytes fits)
       ∙ mask_l-mod (map (λ b. not (is_plain b)) bytes) 64 (omega (arith, length-map bytes (λ b. not (is_plain b))))
+
+  -- The first of them are plain text, where no bit for one of them is set.
+  pub front-plain : (count : ℕ) → count ≤ 16 → leb count (count_trailing_zeros 64 (mask_l (map (λ b. not (is_plain b)) bytes))) ≡ true
+      → EachIs is_plain (take count bytes)
+  front-plain count few unset =
+      let passes : ℕ → Bool = λ b. not (not (is_plain b)) in
+      let within : count ≤ prefix_len passes bytes =
+      subst (λ k. count ≤ k) (first_set_mask_l (λ b. not (is_plain b)) bytes 16 long (omega arith)) (by (eqb (mask_l (map (λ b. not (is_plain b)) bytes)) 0)) in
+      EachIs-weaker passes is_plain (λ b is. not-not (is_plain b) is) (take count bytes)
+      (subst (EachIs passes) (take-take count (prefix_len passes bytes) bytes within) (AllByRecursion-take _ count (take (prefix_len passes bytes) bytes) (EachIs-prefix passes bytes)))
+    where
+      by : (t : Bool) → count ≤ cond t 16 (count_trailing_zeros 64 (mask_l (map (λ b. not (is_plain b)) bytes)))
+      by true = few
+      by false = leb-true count _ unset

@@ -1,8 +1,7 @@
 -- Which characters stand between the marks of hidden text, where it is read back.
 use Rattle.std.proofs.Common.{◌≡◌, ℕ, ◌≤◌, Bool, true, false, List, [], ◌∷◌, ◌++◌, map, refl, sym, ap, ap₂, ◌∙◌, arith, append_assoc, ⊎_elim, IsTrue}
-use Rattle.std.specs.Prelude.{◌==◌, ◌&&◌, ◌||◌}
+use Rattle.std.specs.Prelude.{◌==◌, ◌&&◌}
 use Rattle.std.specs.Char.{IsScalar}
-use Rattle.std.specs.List.{AllByRecursion}
 use Rattle.std.specs.Str.{chars}
 use Rattle.std.proofs.lemmas.Bool.{or_cases, ne_eqb}
 use Rattle.anstyle_parse.specs.Stream.Bytes.{is_within}
@@ -13,9 +12,9 @@ use Rattle.ansi_style.specs.declared.style.Style.{Style}
 use Rattle.ansi_style.specs.Style.{plain}
 use Rattle.ansi_style.specs.Rendition.{style_after}
 use Rattle.safe_text.specs.Unseen.{is_unseen}
-use Rattle.safe_text.specs.Safe.{hides, shows, next_of, is_line_end, is_of_line_end, characters_of}
+use Rattle.safe_text.specs.Safe.{hides, shows, next_of, is_line_end, is_of_line_end}
 use Rattle.safe_text.specs.Reading.{read_back, ended_as, with_line_feeds, told_from, told, told_with_line_feeds}
-use Rattle.safe_text.specs.Marks.{Hiding, nothing_hidden, open_after, hiding_after, mark_between, marked_of, marked_from, hiding_from, closing, marked, safe_marked, told_by}
+use Rattle.safe_text.specs.Marks.{mark_between, marked_from, hiding_from, closing, marked, safe_marked, told_by}
 use Rattle.safe_text.proofs.CallLemmas.{scalars-lawful}
 use Rattle.safe_text.proofs.VisibleLemmas.{scalar-character, no-mark}
 use Rattle.safe_text.proofs.MarkLemmas.{hiding}

@@ -1,5 +1,5 @@
 //! The performer that writes safe text with marks where hidden text begins and ends.
-ghost use Rattle.std.specs.Prelude.{◌≡◌, ◌∷◌, [], false, ◌||◌, map, chars};
+ghost use Rattle.std.specs.Prelude.{◌≡◌, ◌∷◌, [], false, ◌||◌, map, chars, IsUtf8};
 ghost use Rattle.anstyle_parse.specs.Stream.Call.{print, execute};
 ghost use Rattle.anstyle_parse.specs.Stream.Texts.{is_layout, layout_call};
 ghost use Rattle.safe_text.specs.Marks.{mark_between, decided_marked, undecided_marked};
@@ -9,7 +9,7 @@ use crate::performer::{SafeWriter, Standing};
 use crate::unseen::is_unseen;
 use ansi_style::Style;
 use anstyle_parse::io::{CallWriter, Output, Sink, WritingPerformer};
-use anstyle_parse::{Params, Perform, PerformText};
+use anstyle_parse::{Padded, Params, Perform, PerformText};
 
 /// Where the safe text of a stream stands in which hidden text is marked.
 #[derive(Debug, Clone, Copy)]
@@ -150,6 +150,18 @@ impl<W: Sink> MarkingWriter<W> {
             self.take_laid_out(c);
         }
     }
+
+    /// The same with a text that is given by its bytes.
+    #[inline(never)]
+    fn take_bytes(&mut self, bytes: &[u8])
+        requires { IsUtf8 bytes.now }
+        ensures { TakesMarked W.Sink self.old (map layout_call (chars bytes.now)) self.new }
+    {
+        match str::from_utf8(bytes) {
+            Ok(text) => self.take_each(text),
+            Err(_) => unreachable!(),
+        }
+    }
 }
 
 impl<W: Sink> Perform for MarkingWriter<W> {
@@ -207,6 +219,16 @@ impl<W: Sink> PerformText for MarkingWriter<W> {
             self.take_each(text);
         } else {
             self.writer.print_with_layout(text);
+        }
+    }
+
+    #[inline(always)]
+    fn print_padded(&mut self, text: &Padded<'_>) {
+        let has_marks = self.has_marks();
+        if has_marks {
+            self.take_bytes(text.as_bytes());
+        } else {
+            self.writer.print_padded(text);
         }
     }
 

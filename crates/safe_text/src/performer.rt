@@ -1,5 +1,5 @@
 //! The performer that writes safe text.
-ghost use Rattle.std.specs.Prelude.{◌≡◌, ◌%◌, ◌∷◌, [], true, false, encode_utf8, chars, if◌then◌else◌};
+ghost use Rattle.std.specs.Prelude.{◌≡◌, ◌%◌, ◌∷◌, [], true, false, encode_utf8, chars, IsUtf8, if◌then◌else◌};
 ghost use Rattle.anstyle_parse.specs.Io.Output.{Adds};
 ghost use Rattle.anstyle_parse.specs.Stream.Items.{EachIs};
 ghost use Rattle.safe_text.specs.Classes.{is_joiner};
@@ -10,9 +10,9 @@ ghost use Rattle.safe_text.specs.Plain.{is_plain};
 
 use crate::classes::{is_shown, stays};
 use crate::held::Held;
-use crate::plain::Plain;
+use crate::plain::{Plain, is_plain_padded};
 use anstyle_parse::io::{CallWriter, Output, Sink, WritingPerformer};
-use anstyle_parse::{Params, Perform, PerformText};
+use anstyle_parse::{Padded, Params, Perform, PerformText};
 use lanes::{split_front, split_others};
 
 /// In place of a character, where there is none.
@@ -287,6 +287,19 @@ impl<W: Sink> SafeWriter<W> {
         }
     }
 
+    /// The same with a text that may be copied by a whole chunk.
+    #[inline(always)]
+    fn put_plain_padded(&mut self, text: &Padded<'_>)
+        requires nothing { held_in self.old ≡ [] }
+        requires plain { EachIs is_plain text.now }
+        ensures { Takes W.Sink self.old text.now self.new }
+    {
+        if let Some(byte) = text.as_bytes().last() {
+            self.output.put_padded(text);
+            self.before = char::from(*byte);
+        }
+    }
+
     /// Takes plain text: until nothing waits, character by character.
     #[inline]
     fn take_plain(&mut self, text: &[u8])
@@ -328,6 +341,18 @@ impl<W: Sink> SafeWriter<W> {
             let (others, further) = split_others::<Plain>(after);
             self.take_each(others);
             rest = further;
+        }
+    }
+
+    /// The same with a text that is given by its bytes. It is out of line, since short texts are mostly plain.
+    #[inline(never)]
+    fn take_bytes(&mut self, bytes: &[u8])
+        requires { IsUtf8 bytes.now }
+        ensures { Takes W.Sink self.old (chars bytes.now) self.new }
+    {
+        match str::from_utf8(bytes) {
+            Ok(text) => self.take_text(text),
+            Err(_) => unreachable!(),
         }
     }
 }
@@ -374,6 +399,15 @@ impl<W: Sink> PerformText for SafeWriter<W> {
 
     fn print_with_layout(&mut self, text: &str) {
         self.take_text(text);
+    }
+
+    #[inline(always)]
+    fn print_padded(&mut self, text: &Padded<'_>) {
+        if self.held.is_nothing() && is_plain_padded(text) {
+            self.put_plain_padded(text);
+        } else {
+            self.take_bytes(text.as_bytes());
+        }
     }
 
     /// No character is taken of a control sequence.

@@ -1,4 +1,9 @@
 //! Plain text, which is written as it is.
+ghost use Rattle.std.specs.Prelude.{IsTrue};
+ghost use Rattle.anstyle_parse.specs.Stream.Items.{EachIs};
+ghost use Rattle.safe_text.specs.Plain.{is_plain};
+
+use anstyle_parse::Padded;
 use lanes::{AsciiKind, Kind};
 use std::simd::prelude::*;
 
@@ -30,4 +35,13 @@ impl AsciiKind for Plain {
     ghost use Rattle.safe_text.specs.TakingProof.{plain-low};
 
     ghost is_ascii = { plain-low };
+}
+
+/// Whether a text is plain that may be read sixteen bytes past its start.
+#[inline(always)]
+pub(crate) fn is_plain_padded(text: &Padded<'_>) -> bool
+    ensures { IsTrue result → EachIs is_plain text.now }
+{
+    let others = Plain::others(u8x16::from_array(*text.chunk()));
+    others.trailing_zeros() as usize >= text.len()
 }

@@ -6,7 +6,6 @@ use Rattle.anstyle_parse.specs.Stream.Call.{Call}
 use Rattle.std.specs.Prelude.{List}
 use Rattle.safe_text.specs.Safe.{characters, safe}
 use Rattle.safe_text.specs.Reading.{read_back as read, with_line_feeds}
-use Rattle.safe_text.specs.Marks.{safe_marked}
 use Rattle.safe_text.proofs.CallLemmas.{scalars-lawful, all-below}
 use Rattle.safe_text.proofs.ToldLemmas.{read-marked}
 use Rattle.safe_text.proofs.ReadLemmas.{read-safe}

@@ -17,10 +17,6 @@ const LINE_FEEDS: &str = "--lf";
 /// What asks for text without what is hidden.
 const NO_HIDDEN: &str = "--no-hidden";
 
-/// What is said where that is asked for of what a terminal showed.
-pub const HIDDEN_NOT_SHOWN: &str =
-    "ansi2text: --no-hidden and --shown are not taken together (see ansi2text --help)";
-
 /// What it writes of files.
 pub const TEXTS: Outputs<'static> = Outputs {
     word: "text",
@@ -29,7 +25,7 @@ pub const TEXTS: Outputs<'static> = Outputs {
 
 /// What `--help` says.
 pub const HELP: &str = "\
-usage: ansi2text [--safe] [--lf] [--no-hidden | --shown | --shown=COLUMNSxROWS]
+usage: ansi2text [--safe] [--lf] [--no-hidden] [--shown | --shown=COLUMNSxROWS]
                  [-o FILE] [FILE]..
 
 Writes the text of files without the escapes of terminals: colours, cursor moves,
@@ -47,7 +43,8 @@ name files, whatever they begin with.
                           dos2unix does: each line of a recording by script ends
                           with both; --safe and --shown never write both
   --no-hidden             leave out the text that a terminal hides (SGR 8), as
-                          Jenkins writes notes into its logs; not with --shown
+                          Jenkins writes notes into its logs; with --shown of
+                          what a terminal showed
   --shown                 write what a terminal showed instead: the lines that
                           scrolled off, and what stands there at the end. Its
                           size is that which a recording by script says in its

@@ -156,9 +156,9 @@ module _ (styling : Styling) (rate span : ℕ) (much : 30 ≤ rate) (most : rate
         times-add rate (units call) (all_units calls),
       )
 
-  few-blocked_html : (bytes : List ℕ) (calls : List Call) → AreCalls bytes calls → length (blocked_html false styling calls) ≤ (rate + 14) * length bytes + 41
+  few-blocked_html : (calls : List Call) → length (blocked_html false styling calls) ≤ (rate + 14) * all_units calls + 41
   unfolding AtMost
-  few-blocked_html bytes calls are =
+  few-blocked_html calls =
       let last = blocked_at_end false blocked_at_start calls in
       let close = if last.left == 0 then [] else block_end in
       omega (
@@ -170,9 +170,7 @@ module _ (styling : Styling) (rate span : ℕ) (much : 30 ≤ rate) (most : rate
         few-blocked blocked_at_start calls AreSound-start,
         room-none,
         pending-same styling rate span much four spans at_start.shown false,
-        times-less rate (all_units calls) (length bytes) (few-units bytes calls are),
-        few-units bytes calls are,
-        add-times rate 14 (length bytes),
+        add-times rate 14 (all_units calls),
       )
 
   -- numbered lines
@@ -249,8 +247,8 @@ module _ (styling : Styling) (rate span : ℕ) (much : 30 ≤ rate) (most : rate
         times-add lines_rate (units call) (all_units calls),
       )
 
-  few-numbered_html : (bytes : List ℕ) (calls : List Call) → AreCalls bytes calls → length (blocked_html true styling calls) ≤ (lines_rate + 30) * length bytes + 25
-  few-numbered_html bytes calls are =
+  few-numbered_html : (calls : List Call) → length (blocked_html true styling calls) ≤ (lines_rate + 30) * all_units calls + 25
+  few-numbered_html calls =
       let last = blocked_at_end true blocked_at_start calls in
       let close = if last.left == 0 then [] else block_end in
       omega (
@@ -261,23 +259,40 @@ module _ (styling : Styling) (rate span : ℕ) (much : 30 ≤ rate) (most : rate
         choose (λ l. length l ≤ 7) (last.left == 0) [] block_end (omega arith) (omega arith),
         few-numbered blocked_at_start calls (omega arith),
         pending-same styling rate span much four spans at_start.shown false,
-        times-less lines_rate (all_units calls) (length bytes) (few-units bytes calls are),
-        few-units bytes calls are,
-        add-times lines_rate 30 (length bytes),
+        add-times lines_rate 30 (all_units calls),
       )
 
--- The HTML of text in blocks,
+-- The HTML of calls in blocks, text or numbered lines, beside what they may lead to;
+pub length-blocked_units : (styling : Styling) (calls : List Call)
+    → length (blocked_html false styling calls) ≤ (html_of_a_byte styling + block_of_a_byte) * all_units calls + 41
+unfolding AtMost
+length-blocked_units (Inline scheme) calls =
+    few-blocked_html (Inline scheme) 74 275 (omega arith) (omega arith) refl (λ style. AtMost-span_begin (Inline scheme) style) calls
+length-blocked_units Classes calls = few-blocked_html Classes 35 119 (omega arith) (omega arith) refl AtMost-span_of_classes calls
+
+pub length-numbered_units : (styling : Styling) (calls : List Call)
+    → length (blocked_html true styling calls) ≤ (lined_html_of_a_byte styling + block_tags) * all_units calls + 25
+unfolding AtMost
+length-numbered_units (Inline scheme) calls =
+    few-numbered_html (Inline scheme) 74 275 (omega arith) (omega arith) refl (λ style. AtMost-span_begin (Inline scheme) style) calls
+length-numbered_units Classes calls = few-numbered_html Classes 35 119 (omega arith) (omega arith) refl AtMost-span_of_classes calls
+
+-- that of text of a stream,
 pub length-blocked_html : (styling : Styling) (bytes : List ℕ) (calls : List Call) → AreCalls bytes calls
     → length (blocked_html false styling calls) ≤ (html_of_a_byte styling + block_of_a_byte) * length bytes + 41
-unfolding AtMost
-length-blocked_html (Inline scheme) bytes calls are =
-    few-blocked_html (Inline scheme) 74 275 (omega arith) (omega arith) refl (λ style. AtMost-span_begin (Inline scheme) style) bytes calls are
-length-blocked_html Classes bytes calls are = few-blocked_html Classes 35 119 (omega arith) (omega arith) refl AtMost-span_of_classes bytes calls are
+length-blocked_html styling bytes calls are =
+    omega (
+      arith,
+      length-blocked_units styling calls,
+      times-less (html_of_a_byte styling + block_of_a_byte) (all_units calls) (length bytes) (few-units bytes calls are),
+    )
 
 -- and of numbered lines.
 pub length-numbered_html : (styling : Styling) (bytes : List ℕ) (calls : List Call) → AreCalls bytes calls
     → length (blocked_html true styling calls) ≤ (lined_html_of_a_byte styling + block_tags) * length bytes + 25
-unfolding AtMost
-length-numbered_html (Inline scheme) bytes calls are =
-    few-numbered_html (Inline scheme) 74 275 (omega arith) (omega arith) refl (λ style. AtMost-span_begin (Inline scheme) style) bytes calls are
-length-numbered_html Classes bytes calls are = few-numbered_html Classes 35 119 (omega arith) (omega arith) refl AtMost-span_of_classes bytes calls are
+length-numbered_html styling bytes calls are =
+    omega (
+      arith,
+      length-numbered_units styling calls,
+      times-less (lined_html_of_a_byte styling + block_tags) (all_units calls) (length bytes) (few-units bytes calls are),
+    )

@@ -49,7 +49,7 @@ unfoldable pub all_units : List Call → ℕ
 all_units [] = 0
 all_units (call ∷ calls) = units call + all_units calls
 
-all_units-append : (calls more : List Call) → all_units (calls ++ more) ≡ all_units calls + all_units more
+pub all_units-append : (calls more : List Call) → all_units (calls ++ more) ≡ all_units calls + all_units more
 unfolding all_units
 all_units-append [] more = omega arith
 all_units-append (call ∷ calls) more = omega (arith, all_units-append calls more)
@@ -355,24 +355,28 @@ module _ (styling : Styling) (rate span : ℕ) (much : 30 ≤ rate) (four : 4 * 
         times-less rate (all_units calls) (length held + length bytes) (omega (arith, paid, all_units-append first calls, length-append held bytes)),
       )
 
-  pub few-html : (bytes : List ℕ) (calls : List Call) → AreCalls bytes calls → length (html styling calls) ≤ rate * length bytes + 11
+  few-html : (calls : List Call) → length (html styling calls) ≤ rate * all_units calls + 11
   unfolding AtMost
-  few-html bytes calls are =
+  few-html calls =
       let last = (standing_at_end at_start calls).shown in
       omega (
         arith,
         length-append (html_from styling at_start calls) (element_end last),
         few-from at_start calls,
         pending-same at_start.shown false,
-        times-less rate (all_units calls) (length bytes) (few-units bytes calls are),
         AtMost-end last,
       )
 
--- The HTML of a stream.
-pub length-html : (styling : Styling) (bytes : List ℕ) (calls : List Call) → AreCalls bytes calls → length (html styling calls) ≤ html_of_a_byte styling * length bytes + 11
+-- The HTML of calls, beside what they may lead to,
+pub length-html_units : (styling : Styling) (calls : List Call) → length (html styling calls) ≤ html_of_a_byte styling * all_units calls + 11
 unfolding AtMost
-length-html (Inline scheme) bytes calls are = few-html (Inline scheme) 74 275 (omega arith) refl (λ style. AtMost-span_begin (Inline scheme) style) bytes calls are
-length-html Classes bytes calls are = few-html Classes 35 119 (omega arith) refl AtMost-span_of_classes bytes calls are
+length-html_units (Inline scheme) calls = few-html (Inline scheme) 74 275 (omega arith) refl (λ style. AtMost-span_begin (Inline scheme) style) calls
+length-html_units Classes calls = few-html Classes 35 119 (omega arith) refl AtMost-span_of_classes calls
+
+-- and that of a stream.
+pub length-html : (styling : Styling) (bytes : List ℕ) (calls : List Call) → AreCalls bytes calls → length (html styling calls) ≤ html_of_a_byte styling * length bytes + 11
+length-html styling bytes calls are =
+    omega (arith, length-html_units styling calls, times-less (html_of_a_byte styling) (all_units calls) (length bytes) (few-units bytes calls are))
 
 -- The HTML of some of its bytes, after others, of which so many are held.
 pub length-together : (styling : Styling) (held bytes : List ℕ) (calls : List Call) (at : Standing) → AreSound at → Continues held bytes calls

@@ -212,22 +212,25 @@ module _ (styling : Styling) (rate span : ℕ) (much : 30 ≤ rate) (four : 4 * 
         choose (λ l. length l ≤ 7) it.is_open line_end [] (omega arith) (omega arith),
       )
 
-  few-lined_html : (bytes : List ℕ) (calls : List Call) → AreCalls bytes calls → length (lined_html styling calls) ≤ all_rate * length bytes + 18
-  few-lined_html bytes calls are =
+  few-lined_html : (calls : List Call) → length (lined_html styling calls) ≤ all_rate * all_units calls + 18
+  few-lined_html calls =
       let last = lined_end (lined_at_end lined_at_start calls) in
       omega (
         arith,
         length-append (lined_from styling lined_at_start calls) last,
         few-lined lined_at_start calls (omega arith),
         pending-same styling rate span much four spans at_start.shown false,
-        times-less all_rate (all_units calls) (length bytes) (few-units bytes calls are),
         few-end (lined_at_end lined_at_start calls),
       )
 
--- The HTML in lines of a stream.
+-- The HTML in lines of calls, beside what they may lead to,
+pub length-lined_units : (styling : Styling) (calls : List Call) → length (lined_html styling calls) ≤ lined_html_of_a_byte styling * all_units calls + 18
+unfolding AtMost
+length-lined_units (Inline scheme) calls = few-lined_html (Inline scheme) 74 275 (omega arith) refl (λ style. AtMost-span_begin (Inline scheme) style) calls
+length-lined_units Classes calls = few-lined_html Classes 35 119 (omega arith) refl AtMost-span_of_classes calls
+
+-- and that of a stream.
 pub length-lined_html : (styling : Styling) (bytes : List ℕ) (calls : List Call) → AreCalls bytes calls
     → length (lined_html styling calls) ≤ lined_html_of_a_byte styling * length bytes + 18
-unfolding AtMost
-length-lined_html (Inline scheme) bytes calls are =
-    few-lined_html (Inline scheme) 74 275 (omega arith) refl (λ style. AtMost-span_begin (Inline scheme) style) bytes calls are
-length-lined_html Classes bytes calls are = few-lined_html Classes 35 119 (omega arith) refl AtMost-span_of_classes bytes calls are
+length-lined_html styling bytes calls are =
+    omega (arith, length-lined_units styling calls, times-less (lined_html_of_a_byte styling) (all_units calls) (length bytes) (few-units bytes calls are))

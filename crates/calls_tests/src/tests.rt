@@ -1,10 +1,16 @@
 //! Rows that were worked by hand; tests/programs has more, by `ansi2html`.
 use ansi_html::{BlocksWriter, HtmlWriter, LinesWriter, Link, Styling};
 use ansi_screen::Scrollable;
+use ansi_strip::{Inert, Stripper};
 use anstyle_parse::Perform;
-use anstyle_parse::io::{Fault, FromRead, FromWrite, Output, WritingPerformer, write_calls_by};
+use anstyle_parse::io::{
+    CallWriter, Fault, FromRead, FromWrite, Output, WritingPerformer, write_calls_by,
+};
 use html_urls::{Linking, Resumable, begin_link};
-use screen_calls::laws::{same_styles, same_text};
+use safe_text::MarkingWriter;
+use screen_calls::laws::{
+    html_of_shown, length_of_shown, read_of_shown, same_styles, same_text, stream,
+};
 use screen_calls::{CallRows, ShowingFirst};
 use screen_html::{LinkTable, begin_link as pay_for_link, end_line};
 use screen_text::{ShownSize, ShownWriter};
@@ -75,6 +81,22 @@ fn hidden_text(rt: HostRuntime) -> Result<(), Fail> {
     Ok(())
 }
 
+#[test]
+fn hidden_text_of_text(rt: HostRuntime) -> Result<(), Fail> {
+    let performer = WithoutHidden::new(Inert::<Stripper<Memory>>::over(memory(rt.alloc())));
+    let ran = written(rt.alloc(), performer, b"a\x1b[8mb\x1b[mc\n")?;
+    assert_written(&rt, ran, b"ac\n.");
+    Ok(())
+}
+
+#[test]
+fn hidden_text_of_safe_text(rt: HostRuntime) -> Result<(), Fail> {
+    let performer = WithoutHidden::new(MarkingWriter::over(memory(rt.alloc())));
+    let ran = written(rt.alloc(), performer, b"\x1b[8ma\x1b[28;30;40mb\x1b[m<\n")?;
+    assert_written(&rt, ran, b"<U+hidden>b<U+shown><\n.");
+    Ok(())
+}
+
 /// What is written of an x in a link.
 fn linked(alloc: Global, link: &[u8]) -> Ran {
     let mut performer = HtmlWriter::new(Styling::Classes, memory(alloc));
@@ -109,5 +131,11 @@ fn payment(rt: HostRuntime) -> Result<(), Fail> {
 fn names(rt: HostRuntime) {
     same_text();
     same_styles();
+    stream();
+    html_of_shown();
+    read_of_shown();
+    length_of_shown();
+    without_hidden::laws::stream();
+    without_hidden::laws::twice();
     let _first = ShowingFirst::new(rt.alloc(), ShownSize::Recorded, ());
 }

@@ -88,13 +88,13 @@ target-scheme address says =
 abbrev pub parts : List ℕ → List (List ℕ)
 parts target = slice_split (λ b. b == semicolon) target
 
-spaced-concat : (some : List (List ℕ)) → spaced some ≡ length (concat some) + length some
+pub spaced-concat : (some : List (List ℕ)) → spaced some ≡ length (concat some) + length some
 spaced-concat [] = refl
 spaced-concat (part ∷ some) = omega (arith, spaced-concat some, length-append part (concat some))
 
-record HasRoom (target : List ℕ) : Type 0 where
-  few : length (parts target) ≤ 13
-  short : length (concat (parts target)) ≤ 1022
+pub record HasRoom (target : List ℕ) : Type 0 where
+  pub few : length (parts target) ≤ 13
+  pub short : length (concat (parts target)) ≤ 1022
 
 room-of : (target : List ℕ) → fits target ≡ true → HasRoom target
 unfolding fits
@@ -116,10 +116,9 @@ kept b is =
     let high = leb-true b 0x7E both.1 in
     within 0x20 0xFF b (omega (arith, low)) (omega (arith, high))
 
-pub link-parts : (target : List ℕ) → EachIs is_visible target → fits target ≡ true → AreParts (codes "8" ∷ [] ∷ parts target)
+pub room-parts : (target : List ℕ) → EachIs is_visible target → HasRoom target → AreParts (codes "8" ∷ [] ∷ parts target)
 unfolding is_stored is_kept is_within
-link-parts target each is =
-    let room = room-of target is in
+room-parts target each room =
     let few = room.few in
     let short = room.short in
     record {
@@ -129,6 +128,9 @@ link-parts target each is =
       bytes_fit = omega (arith, short);
       last_used = λ full. absurd (omega (arith, short, full));
     }
+
+pub link-parts : (target : List ℕ) → EachIs is_visible target → fits target ≡ true → AreParts (codes "8" ∷ [] ∷ parts target)
+link-parts target each is = room-parts target each (room-of target is)
 
 pub fits-none : fits [] ≡ true
 unfolding fits

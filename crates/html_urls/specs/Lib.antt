@@ -8,3 +8,4 @@ pub mod Linker
 pub mod LinkerProof
 pub mod Resumed
 pub mod ResumedProof
+pub mod ResumedTextProof

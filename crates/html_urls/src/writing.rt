@@ -5,7 +5,9 @@ ghost use Rattle.html_urls.specs.Resumed.{Resumes};
 
 use crate::linking::Linking;
 use ansi_html::{BlocksWriter, HtmlWriter, LinesWriter};
+use ansi_strip::{Inert, Stripper};
 use anstyle_parse::io::{Output, Sink, WritingPerformer};
+use safe_text::MarkingWriter;
 use without_hidden::WithoutHidden;
 
 /// One of which it is known what it writes by more calls, after some.
@@ -43,6 +45,34 @@ impl<W: Sink> Resumable<W> for BlocksWriter<W> {
     ghost text_after = { blocked_after };
 
     ghost goes_on = { blocked-goes_on W.Sink };
+}
+
+impl<W: Sink> Resumable<W> for Stripper<W> {
+    ghost use Rattle.html_urls.specs.Resumed.{stripped_after};
+    ghost use Rattle.html_urls.specs.ResumedTextProof.{stripped-goes_on};
+
+    ghost text_after = { stripped_after };
+
+    ghost goes_on = { stripped-goes_on W.Sink };
+}
+
+/// It goes on as what it hands on to does.
+impl<W: Sink, P: Resumable<W>> Resumable<W> for Inert<P> {
+    ghost use Rattle.html_urls.specs.Resumed.{inert_after};
+    ghost use Rattle.html_urls.specs.ResumedTextProof.{inert-goes_on};
+
+    ghost text_after = { inert_after P.text_after };
+
+    ghost goes_on = { inert-goes_on P.goes_on };
+}
+
+impl<W: Sink> Resumable<W> for MarkingWriter<W> {
+    ghost use Rattle.html_urls.specs.Resumed.{marked_after};
+    ghost use Rattle.html_urls.specs.ResumedTextProof.{marked-goes_on};
+
+    ghost text_after = { marked_after };
+
+    ghost goes_on = { marked-goes_on W.Sink };
 }
 
 /// What is held at the end is written.

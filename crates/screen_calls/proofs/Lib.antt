@@ -3,3 +3,8 @@ pub mod ReceivedLemmas
 pub mod WrittenLemmas
 pub mod TextLemmas
 pub mod StyleLemmas
+pub mod ColoredLemmas
+pub mod FitLemmas
+pub mod LawfulLemmas
+pub mod HtmlLemmas
+pub mod BoundLemmas

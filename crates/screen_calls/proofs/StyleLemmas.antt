@@ -28,7 +28,7 @@ use Rattle.screen_calls.specs.Laws.{Printed, in_style, printed, shown_in_cell, s
 use Rattle.screen_calls.proofs.TextLemmas.{rows-of}
 
 -- the plain style has no colours
-plain-colors : HasColors plain
+pub plain-colors : HasColors plain
 plain-colors = (tt, tt)
 
 -- what selects a link prints nothing, and selects no style
@@ -89,7 +89,7 @@ printed-feed at more =
     ∙ printed-link at.style at.purse.last [] [] (style ++ (feed ++ more))
     ∙ printed-style at.style plain (feed ++ more) plain-colors
 
-colored-take : (n : ℕ) (cells : List Cell) → AreColored cells → AreColored (take n cells)
+pub colored-take : (n : ℕ) (cells : List Cell) → AreColored cells → AreColored (take n cells)
 colored-take zero cells colors = tt
 colored-take (suc n) [] colors = tt
 colored-take (suc n) (cell ∷ cells) colors = (colors.0, colored-take n cells colors.1)

@@ -80,14 +80,14 @@ text-row at row =
     by true = refl
     by false = text-feed (behind_cells at row)
 
-text-handed : (at : Hand) (all : List Handed) → stripped (handed_calls at all) ≡ rows_text (rows_in all)
+pub text-handed : (at : Hand) (all : List Handed) → stripped (handed_calls at all) ≡ rows_text (rows_in all)
 text-handed at [] = refl
 text-handed at (leaving row ∷ others) =
     both (row_calls at row) (handed_calls (hand_after at row) others)
     ∙ ap₂ (λ (l r : List ℕ). l ++ r) (text-row at row) (text-handed (hand_after at row) others)
 text-handed at (command number parts ∷ others) = text-handed (hand_told at number parts) others
 
-text-closing : (at : Hand) → stripped (closing_calls at) ≡ closing at.is_open
+pub text-closing : (at : Hand) → stripped (closing_calls at) ≡ closing at.is_open
 text-closing at = by at.is_open
   where
     by : (on : Bool) → stripped (if on then feed_calls at.pen else []) ≡ (if on then 0x0A ∷ [] else [])

@@ -25,7 +25,7 @@ use Rattle.screen_html.specs.Paid.{purse, paid}
 use Rattle.screen_html.proofs.HandedLemmas.{rows_in, rows_in-handed}
 use Rattle.screen_html.proofs.PaidLemmas.{all-paid}
 use Rattle.screen_html.specs.Shown.{cell_styled, line_feed, Linking, linked, no_linking, row_styled, row_linking, command_linking, rows_styled, handed_styled, linking_behind, closing_styled, shown_styled}
-use Rattle.screen_html.specs.Page.{page_styled}
+use Rattle.screen_html.specs.Page.{lines_styled}
 
 -- calls that may be shown print characters
 prints-call : (call : Call) → IsShowable call → PrintsCharacter call
@@ -113,16 +113,23 @@ module _ (Holds : List ℕ → Type 0) (none : Holds []) (both : (first second :
       (of-rows at last (good-showing behind.display good.display))
       (of-closing (open_after (open_after false left) last)))
 
-  -- of a page, after the calls of a stream
-  pub of-page : (links : Table) (columns rows : ℕ) (bytes : List ℕ) (calls : List Call) → AreCalls bytes calls
-      → AllByRecursion (λ it. Holds (bytes_of it)) (page_styled links (after_all calls (new_state columns rows)).display)
-  of-page links columns rows bytes calls are =
-      let s : State = new_state columns rows in
-      let prints : AllByRecursion PrintsCharacter calls = prints-all calls (AreShowable-lawful false calls (lawful bytes calls are)) in
-      let new : IsGoodState s = record { display = good-new columns rows; last = tt } in
-      let behind : State = after_all calls s in
-      let good : IsGoodState behind = good-after_all calls s prints new in
-      let last : List (List Cell) = printed_rows behind.display in
-      all-append (rows_styled (linked [] links) last) (closing_styled (open_after false last))
-      (of-rows (linked [] links) last (good-first_rows (printed_count behind.display) behind.display good.display))
-      (of-closing (open_after false last))
+  -- of rows of such cells, and of the end of the last
+  pub of-lines : (links : Table) (rows : List (List Cell)) → AllByRecursion AreGood rows
+      → AllByRecursion (λ it. Holds (bytes_of it)) (lines_styled links rows)
+  of-lines links rows are =
+      all-append (rows_styled (linked [] links) rows) (closing_styled (open_after false rows)) (of-rows (linked [] links) rows are)
+      (of-closing (open_after false rows))
+
+-- the calls of a stream print characters
+pub prints-bytes : (bytes : List ℕ) (calls : List Call) → AreCalls bytes calls → AllByRecursion PrintsCharacter calls
+prints-bytes bytes calls are = prints-all calls (AreShowable-lawful false calls (lawful bytes calls are))
+
+-- what shows after them
+pub good-page : (columns rows : ℕ) (bytes : List ℕ) (calls : List Call) → AreCalls bytes calls
+    → AllByRecursion AreGood (printed_rows (after_all calls (new_state columns rows)).display)
+good-page columns rows bytes calls are =
+    let s : State = new_state columns rows in
+    let new : IsGoodState s = record { display = good-new columns rows; last = tt } in
+    let behind : State = after_all calls s in
+    let good : IsGoodState behind = good-after_all calls s (prints-bytes bytes calls are) new in
+    good-first_rows (printed_count behind.display) behind.display good.display

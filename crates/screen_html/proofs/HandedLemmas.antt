@@ -18,7 +18,7 @@ use Rattle.screen_text.specs.Shown.{given_all}
 use Rattle.screen_html.specs.Links.{Kept, kept, Table, no_places, most_kept, place_of, link_at, links_after}
 use Rattle.screen_html.specs.Paid.{purse, paid}
 use Rattle.screen_html.specs.Shown.{cell_styled, line_feed, Linking, linked, no_linking, row_styled, row_linking, command_linking, rows_styled, handed_styled, linking_behind, closing_styled, shown_styled}
-use Rattle.screen_html.specs.Page.{page_styled, links_by, all_links}
+use Rattle.screen_html.specs.Page.{lines_styled, links_by, all_links}
 use Rattle.screen_html.proofs.PaidLemmas.{links-paid}
 
 -- the rows alone
@@ -179,11 +179,11 @@ links-handed at (command number parts ∷ others) are = links-handed (command_li
 links-rows : (at : Linking) (rows : List (List Cell)) → AreKept at.places → HaveLinks (rows_styled at rows)
 links-rows at rows are = links-handed at (map leaving rows) are
 
--- of a page
-pub links-on_page : (links : Table) (d : Display) → AreKept links.places → HaveLinks (page_styled links d)
-links-on_page links d are =
-    links-append (rows_styled (linked [] links) (printed_rows d)) (closing_styled (open_after false (printed_rows d))) (links-rows (linked [] links) (printed_rows d) are)
-    (links-closing (open_after false (printed_rows d)))
+-- of rows, and of the end of the last
+pub links-lines : (links : Table) (rows : List (List Cell)) → AreKept links.places → HaveLinks (lines_styled links rows)
+links-lines links rows are =
+    links-append (rows_styled (linked [] links) rows) (closing_styled (open_after false rows)) (links-rows (linked [] links) rows are)
+    (links-closing (open_after false rows))
 
 pub links-shown : (s : State) (calls : List Call) → HaveLinks (shown_styled s calls)
 links-shown s calls =

@@ -22,27 +22,27 @@ use Rattle.screen_text.specs.Lines.{open_after, showing}
 use Rattle.screen_text.specs.Rows.{Handed, leaving, command, commands, all_handed}
 use Rattle.screen_text.specs.Shown.{given, given_all, shown_text}
 use Rattle.screen_html.specs.Links.{Table, no_links, credited, spare_after, command_cost}
-use Rattle.screen_html.specs.Page.{page_html, page_text, links_by, all_links}
+use Rattle.screen_html.specs.Page.{lines_html, lines_text, links_by, all_links}
 use Rattle.screen_html.specs.Paid.{Purse, purse, purse_with, purse_behind, paid_one, paid, purse_after}
 use Rattle.screen_html.specs.Shown.{line_feed, Linking, linked, no_linking, cells_styled, row_styled, line_ended, row_linking, command_linking, handed_styled, rows_styled, linking_behind, closing_styled, shown_styled, shown_html, call_cost, begun_cost}
 use Rattle.screen_html.proofs.HandedLemmas.{handed-append}
 use Rattle.screen_html.proofs.PaidLemmas.{with_by, bytes-paid}
-use Rattle.screen_html.proofs.ShownLemmas.{bytes-append, bytes-page, bytes-shown, shown_html-all}
+use Rattle.screen_html.proofs.ShownLemmas.{bytes-append, bytes-lines, bytes-shown, shown_html-all}
 
 -- what commands earn
-abbrev handed_cost : List Handed → ℕ
+abbrev pub handed_cost : List Handed → ℕ
 handed_cost [] = 0
 handed_cost (leaving row ∷ others) = handed_cost others
 handed_cost (command number parts ∷ others) = command_cost parts + handed_cost others
 
-few-credited : (earned spare : ℕ) → credited earned spare ≤ spare + earned
+pub few-credited : (earned spare : ℕ) → credited earned spare ≤ spare + earned
 few-credited earned spare = by_case (nat_lt (spare + earned) max_spare) refl
   where
     by_case : (is : Bool) → nat_lt (spare + earned) max_spare ≡ is → (if is then spare + earned else max_spare) ≤ spare + earned
     by_case true e = omega arith
     by_case false e = omega (arith, ltb-false (spare + earned) max_spare e)
 
-few-told : (number : ℕ) (parts : List (List ℕ)) (spare : ℕ) → spare_after number parts spare ≤ spare + command_cost parts
+pub few-told : (number : ℕ) (parts : List (List ℕ)) (spare : ℕ) → spare_after number parts spare ≤ spare + command_cost parts
 unfolding spare_after
 few-told number parts spare = by_case (is_link_command parts) (number == 0)
   where
@@ -270,7 +270,7 @@ cost-append [] more = omega arith
 cost-append (leaving row ∷ others) more = cost-append others more
 cost-append (command number parts ∷ others) more = omega (arith, cost-append others more)
 
-cost-rows : (rows : List (List Cell)) → handed_cost (map leaving rows) ≡ 0
+pub cost-rows : (rows : List (List Cell)) → handed_cost (map leaving rows) ≡ 0
 cost-rows [] = refl
 cost-rows (row ∷ rows) = cost-rows rows
 
@@ -284,7 +284,7 @@ cost-commands unhook s = refl
 cost-commands (csi_dispatch groups intermediates ignore final) s = refl
 cost-commands (esc_dispatch intermediates ignore final) s = refl
 
-cost-handed : (calls : List Call) (s : State) → handed_cost (all_handed calls s) ≡ begun_cost calls
+pub cost-handed : (calls : List Call) (s : State) → handed_cost (all_handed calls s) ≡ begun_cost calls
 cost-handed [] s = refl
 cost-handed (call ∷ calls) s =
     let rows = map leaving (rows_left call s) in
@@ -317,7 +317,7 @@ begun-given unhook = refl
 begun-given (csi_dispatch groups intermediates ignore final) = refl
 begun-given (esc_dispatch intermediates ignore final) = refl
 
-begun-given_all : (calls : List Call) → begun_cost (given_all calls) ≡ begun_cost calls
+pub begun-given_all : (calls : List Call) → begun_cost (given_all calls) ≡ begun_cost calls
 begun-given_all [] = refl
 begun-given_all (call ∷ calls) = omega (arith, begun-append (given call) (given_all calls), begun-given call, begun-given_all calls)
 
@@ -361,16 +361,14 @@ module _ (styling : Styling) (s : State) (calls : List Call) where
         begun-given_all calls,
       )
 
-  pub length-page_paid : length (page_html styling (all_links calls s no_links) (after_all calls s).display)
-      ≤ 452 * length (page_text (after_all calls s).display) + (begun_cost calls + 111)
-  length-page_paid =
+  pub length-lines_paid : (rows : List (List Cell)) → length (lines_html styling (all_links calls s no_links) rows)
+      ≤ 452 * length (lines_text rows) + (begun_cost calls + 111)
+  length-lines_paid rows =
       let links : Table = all_links calls s no_links in
-      let d : Display = (after_all calls s).display in
-      let rows = printed_rows d in
       omega (
         arith,
         few-all styling (linked [] links) (map leaving rows) (open_after false rows) refl,
-        ap length (bytes-page links d),
+        ap length (bytes-lines links rows),
         cost-rows rows,
         few-links calls s no_links,
       )

@@ -22,7 +22,7 @@ use Rattle.screen_html.specs.Paid.{purse, paid}
 use Rattle.screen_text.specs.Shown.{given_all, shown_text}
 use Rattle.screen_text.specs.Writer.{rows_of, screen_of, text_from, ending_from}
 use Rattle.screen_html.specs.Shown.{cell_styled, line_feed, Linking, linked, no_linking, cells_styled, row_styled, row_linking, command_linking, rows_styled, handed_styled, linking_behind, closing_styled, left_styled, ending_styled, shown_styled, left_html, ending_html, shown_html}
-use Rattle.screen_html.specs.Page.{page_styled, page_text}
+use Rattle.screen_html.specs.Page.{lines_styled, lines_text}
 use Rattle.screen_html.specs.Writer.{Between, row_html, after_row, after_command, closing_html}
 use Rattle.screen_html.proofs.PaidLemmas.{bytes-paid}
 
@@ -58,7 +58,7 @@ module _ (styling : Styling) where
   rows_lead shown at on (command number parts ∷ others) = rows_lead shown (command_linking at number parts) on others
 
   -- the last rows, and what closes
-  last_rows_html : (shown : Element) (at : Linking) (on : Bool) (rows : List (List Cell))
+  pub last_rows_html : (shown : Element) (at : Linking) (on : Bool) (rows : List (List Cell))
       → last_rows_from row_html after_row after_command closing_html (between styling shown at on) (map leaving rows)
       ≡ styled_html styling shown (rows_styled at rows ++ closing_styled (open_after on rows)) ++ element_end (shown_after shown (rows_styled at rows ++ closing_styled (open_after on rows)))
   last_rows_html shown at on rows =
@@ -145,11 +145,11 @@ bytes-handed at on (leaving row ∷ others) =
     bytes-append (row_styled at row) (handed_styled (row_linking at row) others) ∙ ap₂ (λ a b. a ++ b) (bytes-row at row) (bytes-handed (row_linking at row) (goes_on row) others)
 bytes-handed at on (command number parts ∷ others) = bytes-handed (command_linking at number parts) on others
 
--- of a page
-pub bytes-page : (links : Table) (d : Display) → all_bytes (page_styled links d) ≡ page_text d
-bytes-page links d =
-    bytes-append (rows_styled (linked [] links) (printed_rows d)) (closing_styled (open_after false (printed_rows d)))
-    ∙ ap₂ (λ a b. a ++ b) (bytes-rows (linked [] links) (printed_rows d)) (bytes-closing (open_after false (printed_rows d)))
+-- of rows, and of the end of the last
+pub bytes-lines : (links : Table) (rows : List (List Cell)) → all_bytes (lines_styled links rows) ≡ lines_text rows
+bytes-lines links rows =
+    bytes-append (rows_styled (linked [] links) rows) (closing_styled (open_after false rows))
+    ∙ ap₂ (λ a b. a ++ b) (bytes-rows (linked [] links) rows) (bytes-closing (open_after false rows))
 
 pub bytes-shown : (s : State) (calls : List Call) → all_bytes (shown_styled s calls) ≡ shown_text s calls
 bytes-shown s calls =

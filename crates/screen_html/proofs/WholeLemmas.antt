@@ -24,15 +24,16 @@ use Rattle.ansi_screen.specs.Display.{Display}
 use Rattle.ansi_screen.specs.Text.{printed_rows}
 use Rattle.ansi_screen.specs.Edits.{swapped}
 use Rattle.ansi_screen.specs.Leaving.{all_left}
+use Rattle.ansi_screen.proofs.CharacterLemmas.{AreGood}
 use Rattle.screen_text.specs.Lines.{open_after}
 use Rattle.screen_text.specs.Rows.{all_handed}
 use Rattle.screen_text.specs.Shown.{given_all, shown_text}
 use Rattle.screen_html.specs.Shown.{Linking, linked, no_linking, rows_styled, closing_styled, shown_styled, shown_html}
 use Rattle.screen_html.specs.Links.{Table, no_links}
-use Rattle.screen_html.specs.Page.{page_styled, page_html, page_text, links_by, all_links}
-use Rattle.screen_html.proofs.HandedLemmas.{AreKept, kept-none, kept-after, rows_in-handed, handed-none, behind-handed, links-on_page, links-shown}
-use Rattle.screen_html.proofs.CellLemmas.{of-shown, of-page}
-use Rattle.screen_html.proofs.ShownLemmas.{shown_html-all, bytes-page, bytes-shown}
+use Rattle.screen_html.specs.Page.{lines_styled, lines_html, lines_text, page_html, links_by, all_links}
+use Rattle.screen_html.proofs.HandedLemmas.{AreKept, kept-none, kept-after, rows_in-handed, handed-none, behind-handed, links-lines, links-shown}
+use Rattle.screen_html.proofs.CellLemmas.{of-shown, of-lines}
+use Rattle.screen_html.proofs.ShownLemmas.{shown_html-all, bytes-lines, bytes-shown}
 
 pub AreTextual-append : (first second : List ℕ) → AreTextual first → AreTextual second → AreTextual (first ++ second)
 AreTextual-append [] second are others = others
@@ -112,7 +113,7 @@ kept-all (call ∷ calls) s links are = kept-all calls (after call s) (links_by 
 
 -- Where no row has left and the main screen shows, a page has all that the screen showed.
 styled-page : (s : State) (calls : List Call) → all_left (given_all calls) s ≡ [] → (after_all (given_all calls) s).display.is_alternate ≡ false
-    → shown_styled s calls ≡ page_styled (all_links (given_all calls) s no_links) (after_all (given_all calls) s).display
+    → shown_styled s calls ≡ lines_styled (all_links (given_all calls) s no_links) (printed_rows (after_all (given_all calls) s).display)
 styled-page s calls none is_main =
     let given : List Call = given_all calls in
     let d : Display = (after_all given s).display in
@@ -123,50 +124,46 @@ styled-page s calls none is_main =
     (ap (λ t. (if t then printed_rows (swapped d) else []) ++ rows) is_main)
     ∙ ap (λ (left : List (List Cell)). rows_styled (linked [] links) rows ++ closing_styled (open_after (open_after false left) rows)) none)
 
--- what holds of pages
+-- what holds of rows, wherever they are from
 module _ (styling : Styling) where
   pub whole-page : (s : State) (calls : List Call) → all_left (given_all calls) s ≡ [] → (after_all (given_all calls) s).display.is_alternate ≡ false
       → shown_html styling s calls ≡ page_html styling (all_links (given_all calls) s no_links) (after_all (given_all calls) s).display
   whole-page s calls none is_main = shown_html-all styling s calls ∙ ap (λ (texts : List Styled). all_html styling texts) (styled-page s calls none is_main)
 
-  pub read-page : (links : Table) (d : Display) → read (page_html styling links d) ≡ all_shown styling (page_styled links d)
-  read-page links d = read-styled styling (page_styled links d)
+  pub read-lines : (links : Table) (rows : List (List Cell)) → read (lines_html styling links rows) ≡ all_shown styling (lines_styled links rows)
+  read-lines links rows = read-styled styling (lines_styled links rows)
 
-  pub text-page : (links : Table) (d : Display) → map byte_of (read (page_html styling links d)) ≡ page_text d
-  text-page links d = text-styled styling (page_styled links d) ∙ bytes-page links d
+  pub text-lines : (links : Table) (rows : List (List Cell)) → map byte_of (read (lines_html styling links rows)) ≡ lines_text rows
+  text-lines links rows = text-styled styling (lines_styled links rows) ∙ bytes-lines links rows
 
-  pub links-page : (s : State) (calls : List Call)
-      → AllByRecursion IsLink (map href_of (read (page_html styling (all_links calls s no_links) (after_all calls s).display)))
-  links-page s calls =
-      links-styled styling (page_styled (all_links calls s no_links) (after_all calls s).display)
-      (links-on_page (all_links calls s no_links) (after_all calls s).display (kept-all calls s no_links kept-none))
+  pub links-of_lines : (links : Table) (rows : List (List Cell)) → AreKept links.places
+      → AllByRecursion IsLink (map href_of (read (lines_html styling links rows)))
+  links-of_lines links rows kept = links-styled styling (lines_styled links rows) (links-lines links rows kept)
 
-  pub length-page : (s : State) (calls : List Call)
-      → length (page_html styling (all_links calls s no_links) (after_all calls s).display) ≤ 6527 * length (page_text (after_all calls s).display) + 11
-  length-page s calls =
+  pub links-in_lines : (s : State) (calls : List Call) (rows : List (List Cell))
+      → AllByRecursion IsLink (map href_of (read (lines_html styling (all_links calls s no_links) rows)))
+  links-in_lines s calls rows = links-of_lines (all_links calls s no_links) rows (kept-all calls s no_links kept-none)
+
+  pub length-lines : (s : State) (calls : List Call) (rows : List (List Cell))
+      → length (lines_html styling (all_links calls s no_links) rows) ≤ 6527 * length (lines_text rows) + 11
+  length-lines s calls rows =
       let links : Table = all_links calls s no_links in
-      let d : Display = (after_all calls s).display in
-      omega (arith, length-styled styling (page_styled links d) (links-on_page links d (kept-all calls s no_links kept-none)), ap length (bytes-page links d))
+      omega (arith, length-styled styling (lines_styled links rows) (links-lines links rows (kept-all calls s no_links kept-none)), ap length (bytes-lines links rows))
 
-  module _ (columns rows : ℕ) (bytes : List ℕ) (calls : List Call) (are : AreCalls bytes calls) where
-    abbrev links_there : Table
-    links_there = all_links calls (new_state columns rows) no_links
+  -- of rows whose cells have characters that may be printed
+  module _ (links : Table) (rows : List (List Cell)) (good : AllByRecursion AreGood rows) where
+    pub drawn-lines : drawn (lines_html styling links rows) ≡ lines_text rows
+    drawn-lines =
+        drawn-styled styling (lines_styled links rows)
+        (of-lines HasNoReturn refl HasNoReturn-append (λ c good. HasNoReturn-printed (encode_utf8 c) (ArePrinted-encode c good.0)) no_return-feed links rows good)
+        ∙ bytes-lines links rows
 
-    abbrev there : Display
-    there = (after_all calls (new_state columns rows)).display
+    pub IsFragment-lines : AreKept links.places → IsFragment styling (lines_html styling links rows)
+    IsFragment-lines kept =
+        IsFragment-styled styling (lines_styled links rows) (links-lines links rows kept)
+        (of-lines AreTextual tt AreTextual-append (λ c good. AreTextual-printed (encode_utf8 c) (ArePrinted-encode c good.0)) (textual_feed, tt) links rows good)
 
-    pub drawn-page : drawn (page_html styling links_there there) ≡ page_text there
-    drawn-page =
-        drawn-styled styling (page_styled links_there there)
-        (of-page HasNoReturn refl HasNoReturn-append (λ c good. HasNoReturn-printed (encode_utf8 c) (ArePrinted-encode c good.0)) no_return-feed links_there columns rows bytes calls are)
-        ∙ bytes-page links_there there
-
-    pub IsFragment-page : IsFragment styling (page_html styling links_there there)
-    IsFragment-page =
-        IsFragment-styled styling (page_styled links_there there) (links-on_page links_there there (kept-all calls (new_state columns rows) no_links kept-none))
-        (of-page AreTextual tt AreTextual-append (λ c good. AreTextual-printed (encode_utf8 c) (ArePrinted-encode c good.0)) (textual_feed, tt) links_there columns rows bytes calls are)
-
-    pub IsUtf8-page : IsUtf8 (page_html styling links_there there)
-    IsUtf8-page =
-        IsUtf8-styled styling (page_styled links_there there) (links-on_page links_there there (kept-all calls (new_state columns rows) no_links kept-none))
-        (of-page (λ text. IsUtf8 (escaped_text text)) IsUtf8-nil IsUtf8-escaped (λ c good. IsUtf8-stripped (print c) good.0) (IsUtf8-stripped (execute 0x0A) tt) links_there columns rows bytes calls are)
+    pub IsUtf8-lines : AreKept links.places → IsUtf8 (lines_html styling links rows)
+    IsUtf8-lines kept =
+        IsUtf8-styled styling (lines_styled links rows) (links-lines links rows kept)
+        (of-lines (λ text. IsUtf8 (escaped_text text)) IsUtf8-nil IsUtf8-escaped (λ c good. IsUtf8-stripped (print c) good.0) (IsUtf8-stripped (execute 0x0A) tt) links rows good)

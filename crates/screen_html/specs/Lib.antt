@@ -2,6 +2,7 @@ pub mod Attributes
 pub mod Blocks
 pub mod Links
 pub mod Page
+pub mod PageWriter
 pub mod Paid
 pub mod Places
 pub mod Shown

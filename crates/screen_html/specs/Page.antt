@@ -3,6 +3,7 @@ use Rattle.std.specs.Prelude.{ℕ, List, [], ◌∷◌, ◌++◌, false}
 use Rattle.anstyle_parse.specs.Stream.Call.{Call, osc_dispatch}
 use Rattle.ansi_html.specs.declared.scheme.Styling.{Styling}
 use Rattle.ansi_html.specs.Styled.{Styled, all_html}
+use Rattle.ansi_screen.specs.declared.cell.Cell.{Cell}
 use Rattle.ansi_screen.specs.After.{State, after}
 use Rattle.ansi_screen.specs.Display.{Display}
 use Rattle.ansi_screen.specs.Text.{printed_rows}
@@ -10,18 +11,23 @@ use Rattle.screen_text.specs.Lines.{rows_text, open_after, closing}
 use Rattle.screen_html.specs.Links.{Table, table_after}
 use Rattle.screen_html.specs.Shown.{linked, rows_styled, closing_styled}
 
--- the rows up to the last in which something was printed, in the styles of their cells and in the links that are kept
--- and paid; a line that is open at the end is ended
-abbrev pub page_styled : Table → Display → List Styled
-page_styled links d =
-    rows_styled (linked [] links) (printed_rows d) ++ closing_styled (open_after false (printed_rows d))
+-- rows in the styles of their cells and in the links that are kept and paid; a line that is open at the end is ended
+abbrev pub lines_styled : Table → List (List Cell) → List Styled
+lines_styled links rows = rows_styled (linked [] links) rows ++ closing_styled (open_after false rows)
 
-abbrev pub page_html : Styling → Table → Display → List ℕ
-page_html styling links d = all_html styling (page_styled links d)
+abbrev pub lines_html : Styling → Table → List (List Cell) → List ℕ
+lines_html styling links rows = all_html styling (lines_styled links rows)
 
 -- the same as text
+abbrev pub lines_text : List (List Cell) → List ℕ
+lines_text rows = rows_text rows ++ closing (open_after false rows)
+
+-- those that show, up to the last in which something was printed
+abbrev pub page_html : Styling → Table → Display → List ℕ
+page_html styling links d = lines_html styling links (printed_rows d)
+
 abbrev pub page_text : Display → List ℕ
-page_text d = rows_text (printed_rows d) ++ closing (open_after false (printed_rows d))
+page_text d = lines_text (printed_rows d)
 
 -- The links that are kept after a call that has led to this screen: a command may have begun one, whose number is then
 -- in force.

@@ -12,7 +12,6 @@ ghost use Rattle.ansi_html.specs.Links.{IsLink, link_of};
 ghost use Rattle.ansi_html.specs.Reader.{byte_of, href_of, seen, read, drawn};
 ghost use Rattle.ansi_html.specs.Styled.{all_shown};
 ghost use Rattle.ansi_screen.specs.After.{State, new_state, after_all};
-ghost use Rattle.ansi_screen.specs.Display.{Display};
 ghost use Rattle.ansi_screen.specs.Leaving.{all_left};
 ghost use Rattle.ansi_screen.specs.Text.{goes_on};
 ghost use Rattle.ansi_screen.specs.declared.cell.Cell.{Cell};
@@ -22,7 +21,7 @@ ghost use Rattle.screen_html.specs.Links.{Kept, Table, most_kept, no_links, numb
 ghost use Rattle.screen_html.specs.Paid.{links_cost};
 ghost use Rattle.screen_html.specs.Shown.{Linking, no_linking, cells_styled, row_styled, row_linking, command_linking, begun_cost, line_end, shown_styled, shown_html};
 ghost use Rattle.screen_html.specs.Blocks.{shown_blocked};
-ghost use Rattle.screen_html.specs.Page.{page_styled, page_html, page_text, all_links};
+ghost use Rattle.screen_html.specs.Page.{lines_styled, lines_html, lines_text, page_html, page_text, all_links};
 
 /// Which link a number has: that of the command which got it since the last reset, where fewer than 1,024 links began
 /// after it (`kept`), and else none (`lost`), whatever the table had before that reset.
@@ -35,26 +34,25 @@ pub fn last_links()
         → link_at (length earlier + 1) (numbered 1 (earlier ++ parts ∷ later) before) ≡ [] }
 {}
 
-/// The HTML of what a screen shows: reading it gives each cell's characters with the declarations of its style or its
-/// classes, and its link (`read_back`), and so the text of the rows that show (`text`). With the links of the stream
-/// that led there, each begins with https://, http:// or mailto: (`links`), and it has at most 452 bytes for each byte
-/// of the text, those of the links that the stream begins, each once, and 111 more (`bound`); and at most 6527 for each
-/// byte of the text, and 11 more (`text_bound`). From a new screen on its lines are those of the text, no markup comes
-/// in (`grammar`), and it is UTF-8. Where no row has left and the main screen shows, it is all that `convert_shown`
-/// writes (`whole`).
+/// The HTML of any rows ([`PageRows`](crate::PageRows)), as of those that a screen shows or of those that left it:
+/// reading it gives each cell's characters with the declarations of its style or its classes, and its link
+/// (`read_back`), and so their text (`text`). With the links of a stream, each begins with https://, http:// or mailto:
+/// (`links`), and it has at most 452 bytes for each byte of the text, those of the links that the stream begins, each
+/// once, and 111 more (`bound`); and at most 6527 for each byte of the text, and 11 more (`text_bound`). Of what shows
+/// from a new screen on, its lines are those of the text, no markup comes in (`grammar`), and it is UTF-8. Where no row
+/// has left and the main screen shows, it is all that `convert_shown` writes (`whole`).
 pub fn page()
-    ensures read_back { (styling : Styling) (links : Table) (d : Display)
-        → read (page_html styling links d) ≡ all_shown styling (page_styled links d) }
-    ensures text { (styling : Styling) (links : Table) (d : Display)
-        → map byte_of (read (page_html styling links d)) ≡ page_text d }
-    ensures links { (styling : Styling) (s : State) (calls : List Call) → AllByRecursion IsLink
-        (map href_of (read (page_html styling (all_links calls s no_links) (after_all calls s).display))) }
-    ensures bound { (styling : Styling) (s : State) (calls : List Call)
-        → length (page_html styling (all_links calls s no_links) (after_all calls s).display)
-        ≤ 452 * length (page_text (after_all calls s).display) + (begun_cost calls + 111) }
-    ensures text_bound { (styling : Styling) (s : State) (calls : List Call)
-        → length (page_html styling (all_links calls s no_links) (after_all calls s).display)
-        ≤ 6527 * length (page_text (after_all calls s).display) + 11 }
+    ensures read_back { (styling : Styling) (links : Table) (rows : List (List Cell))
+        → read (lines_html styling links rows) ≡ all_shown styling (lines_styled links rows) }
+    ensures text { (styling : Styling) (links : Table) (rows : List (List Cell))
+        → map byte_of (read (lines_html styling links rows)) ≡ lines_text rows }
+    ensures links { (styling : Styling) (s : State) (calls : List Call) (rows : List (List Cell))
+        → AllByRecursion IsLink (map href_of (read (lines_html styling (all_links calls s no_links) rows))) }
+    ensures bound { (styling : Styling) (s : State) (calls : List Call) (rows : List (List Cell))
+        → length (lines_html styling (all_links calls s no_links) rows)
+        ≤ 452 * length (lines_text rows) + (begun_cost calls + 111) }
+    ensures text_bound { (styling : Styling) (s : State) (calls : List Call) (rows : List (List Cell))
+        → length (lines_html styling (all_links calls s no_links) rows) ≤ 6527 * length (lines_text rows) + 11 }
     ensures lines { (styling : Styling) (columns rows : ℕ) (bytes : List ℕ) (calls : List Call) → AreCalls bytes calls
         → drawn (page_html styling (all_links calls (new_state columns rows) no_links)
         (after_all calls (new_state columns rows)).display)

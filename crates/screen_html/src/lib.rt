@@ -44,7 +44,7 @@ use ansi_html::Styling;
 use ansi_screen::Scrollable;
 use anstyle_parse::io::{Fault, Output, Sink, Source, write_calls_by};
 pub use blocks::BlockRows;
-pub use page::write_screen;
+pub use page::PageRows;
 pub use rows::HtmlRows;
 use screen_text::ShownWriter;
 pub use spare::{begin_link, end_line};

@@ -1,64 +1,90 @@
-//! What a screen shows, as HTML.
-ghost use Rattle.std.specs.Prelude.{◌≡◌, ◌≤◌, [], false};
+//! Rows as HTML, with links that are kept elsewhere.
+ghost use Rattle.std.specs.Prelude.{◌≡◌};
 ghost use Rattle.anstyle_parse.specs.Io.Output.{Adds};
-ghost use Rattle.ansi_html.specs.Styled.{WritesStyled};
-ghost use Rattle.ansi_screen.specs.Text.{first_rows};
-ghost use Rattle.screen_text.specs.Lines.{open_after};
-ghost use Rattle.screen_html.specs.Shown.{linked, rows_styled};
-ghost use Rattle.screen_html.specs.Page.{page_html};
 
 use crate::rows::{put_line_feed, put_row};
 use crate::table::LinkTable;
 use ansi_html::{Link, StyledWriter, Styling};
-use ansi_screen::{LeftOut, Screen, goes_on};
+use ansi_screen::{Cell, TakeRow, goes_on};
 use anstyle_parse::io::{Output, Sink};
 
-/// Writes the first rows, and answers whether the last of them goes on.
-fn put_rows<W: Sink>(
-    writer: &mut StyledWriter<W>,
-    links: &LinkTable,
-    screen: &Screen,
-    count: usize,
-) -> bool
-    requires { count ≤ screen.now.display.height }
-    ensures rows { WritesStyled W.Sink writer.old
-        (rows_styled (linked [] links.now) (first_rows count screen.now.display)) writer.new }
-    ensures open { result ≡ open_after false (first_rows count screen.now.display) }
-{
-    let mut last = Link::none();
-    let mut spare = links.spare();
-    let mut is_open = false;
-    for row in 0..count {
-        let cells = screen.row(row);
-        put_row(
-            writer,
-            links,
-            &mut last,
-            &mut spare,
-            cells,
-            screen.written(row),
-        );
-        is_open = goes_on(cells);
-    }
-    is_open
+/// Writes rows as HTML, as [`HtmlRows`](crate::HtmlRows) does; cells have the links of a table that stays as it is,
+/// where what is spare there pays for them, and what the lines before have earned.
+#[derive(Drop)]
+pub struct PageRows<'a, W> {
+    writer: StyledWriter<W>,
+    links: &'a LinkTable,
+    /// The link of the last text.
+    last: Link,
+    /// What is spare to begin links with.
+    spare: usize,
+    /// The last row goes on.
+    is_open: bool,
 }
 
-/// Writes the rows that a screen shows, as [`convert_shown`](crate::convert_shown) writes those that still show at the
-/// end of a stream, but not the main screen's where the alternate one shows: each up to the last cell in which
-/// something was printed, with a line feed, and a row that goes on and the next one as one line; without the rows at
-/// the end in which nothing was printed. Cells have the links of this table, where what is spare there pays for them.
-pub fn write_screen<W: Sink>(
-    screen: &Screen,
-    links: &LinkTable,
-    styling: Styling,
-    output: Output<W>,
-) -> Output<W>
-    ensures { Adds W.Sink (page_html styling links.now screen.now.display) output result }
-{
-    let mut writer = StyledWriter::new(styling, output);
-    let count = screen.used_rows(LeftOut::Unprinted);
-    if put_rows(&mut writer, links, screen, count) {
-        put_line_feed(&mut writer, links);
+impl<'a, W: Sink> PageRows<'a, W> {
+    ghost use Rattle.std.specs.Prelude.{[], false};
+    ghost use Rattle.ansi_html.specs.Html.{no_element};
+    ghost use Rattle.screen_html.specs.Shown.{linked};
+    ghost use Rattle.screen_html.specs.Writer.{closing_html};
+    ghost use Rattle.screen_html.specs.PageWriter.{output_of, standing_of};
+
+    /// One that writes to this output, says styles in this way, and has taken no row.
+    pub fn new(styling: Styling, links: &'a LinkTable, output: Output<W>) -> PageRows<'a, W>
+        ensures output { output_of result ≡ output }
+        ensures new { standing_of result ≡ record {
+          styling = styling;
+          shown = no_element;
+          linking = linked [] links.now;
+          is_open = false;
+        } }
+    {
+        PageRows {
+            writer: StyledWriter::new(styling, output),
+            links,
+            last: Link::none(),
+            spare: links.spare(),
+            is_open: false,
+        }
     }
-    writer.into_output()
+
+    /// Ends the last line, where the last row goes on, and hands the output back.
+    pub fn into_output(self) -> Output<W>
+        ensures { Adds W.Sink (closing_html (standing_of self.entry)) (output_of self.entry) result }
+    {
+        let PageRows {
+            mut writer,
+            links,
+            is_open,
+            ..
+        } = self;
+        if is_open {
+            put_line_feed(&mut writer, links);
+        }
+        writer.into_output()
+    }
+}
+
+impl<'a, W: Sink> TakeRow for PageRows<'a, W> {
+    ghost use Rattle.screen_html.specs.PageWriter.{TakesRow, PassesOn};
+
+    ghost takes = { TakesRow W.Sink };
+
+    ghost passes_on = { PassesOn W.Sink };
+
+    fn take_row(&mut self, row: &[Cell], written: usize) {
+        put_row(
+            &mut self.writer,
+            self.links,
+            &mut self.last,
+            &mut self.spare,
+            row,
+            written,
+        );
+        self.is_open = goes_on(row);
+    }
+
+    fn pass_on(&mut self) {
+        self.writer.pass_on();
+    }
 }

@@ -43,9 +43,9 @@ requests-more before more made old new continues becomes (calls, are, has) =
 
 pub told-stands : (first : State) (bytes : List ℕ) (old new : Terminal) → Tells old new → StandsAfter first bytes old → StandsAfter first bytes new
 told-stands first bytes old new tells stands = record {
-  shows = subst (λ (s : State). Shows (with_shown s.display.shown (unkept first)) bytes (unkept s)) (sym tells.screen) stands.shows;
+  shows = subst (λ (s : State). Shows (with_shown s.shown (unkept first)) bytes (unkept s)) (sym tells.screen) stands.shows;
   parser = subst (λ p. IsAfter front_of p bytes) (sym tells.parser) stands.parser;
-  history = kept-stands first bytes old new tells.keeps_erased (ap (λ (s : State). s.display.history) tells.screen) stands.history;
+  history = kept-stands first bytes old new tells.keeps_erased (ap (λ (s : State). s.history) tells.screen) stands.history;
   links = subst (KeepsLinks first bytes) (sym tells.links) stands.links;
   asked = subst (HasAsked bytes) (sym tells.asked) stands.asked;
   request = subst (HasRequest bytes) (sym tells.request) stands.request;
@@ -58,9 +58,9 @@ stilled t = record t { waiting = nothing_waits; theme = no_theme }
 still-stands : (first : State) (bytes : List ℕ) (old new : Terminal) → new.parser ≡ old.parser → stilled new.answering ≡ stilled old.answering
     → StandsAfter first bytes old → StandsAfter first bytes new
 still-stands first bytes old new parser same stands = record {
-  shows = subst (λ (s : State). Shows (with_shown s.display.shown (unkept first)) bytes (unkept s)) (sym (ap (λ (t : Answering). t.screen) same)) stands.shows;
+  shows = subst (λ (s : State). Shows (with_shown s.shown (unkept first)) bytes (unkept s)) (sym (ap (λ (t : Answering). t.screen) same)) stands.shows;
   parser = subst (λ p. IsAfter front_of p bytes) (sym parser) stands.parser;
-  history = kept-stands first bytes old new (ap (λ (t : Answering). t.keeps_erased) same) (ap (λ (t : Answering). t.screen.display.history) same) stands.history;
+  history = kept-stands first bytes old new (ap (λ (t : Answering). t.keeps_erased) same) (ap (λ (t : Answering). t.screen.history) same) stands.history;
   links = subst (KeepsLinks first bytes) (sym (ap (λ (t : Answering). t.links) same)) stands.links;
   asked = subst (HasAsked bytes) (sym (ap (λ (t : Answering). t.asked) same)) stands.asked;
   request = subst (HasRequest bytes) (sym (ap (λ (t : Answering). t.request) same)) stands.request;

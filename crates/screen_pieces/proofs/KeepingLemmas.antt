@@ -14,15 +14,15 @@ use Rattle.ansi_screen.specs.declared.cell.Cell.{Cell}
 use Rattle.ansi_screen.specs.After.{State, new_state, after, after_all}
 use Rattle.ansi_screen.specs.History.{Kept, keep_last, kept_after, kept_after_all, with_left}
 use Rattle.ansi_screen.specs.Leaving.{rows_left}
-use Rattle.ansi_screen.proofs.LeavingTable.{leaving}
-use Rattle.ansi_screen.proofs.LeftLemmas.{length-left, with_left-append}
+use Rattle.ansi_screen.proofs.LeavingTable.{leaving, length-left}
+use Rattle.ansi_screen.proofs.LeftLemmas.{left_none, left_some, with_left-append}
 use Rattle.ansi_screen.proofs.SizeLemmas.{HasSize, sized-after, sized-after_all, few-leave}
 use Rattle.screen_answers.specs.Kept.{is_kept, rows_kept, all_kept}
 use Rattle.screen_answers.proofs.KeptLemmas.{all_kept-append}
 use Rattle.screen_pieces.specs.declared.terminal.Terminal.{Terminal}
 use Rattle.screen_pieces.specs.History.{nothing_yet, kept_of, KeepsLeft}
 use Rattle.screen_pieces.specs.Keeping.{AreKeptSince, HasRoomSince, most_leaving}
-use Rattle.screen_pieces.specs.Terminal.{display_of, history_of, keeps_erased_of, StandsAfter, Feeds}
+use Rattle.screen_pieces.specs.Terminal.{screen_of, history_of, keeps_erased_of, StandsAfter, Feeds}
 
 -- Two calls for each byte at most.
 length-calls : {A : Type 0} (adds : AccumulatorStep A) (bytes : List ℕ) (m : Machine A) → length (machine_calls adds bytes m) ≤ 2 * length bytes
@@ -87,14 +87,13 @@ still-kept rows seen kept room are =
 
 kept-with : (rows : List (List Cell)) (seen : ℕ) (history : Option Kept) → HasRoomSince seen (length rows) (kept_of history) → AreKeptSince seen (kept_of history)
     → AreKeptSince seen (kept_of (with_left rows history))
-kept-with rows seen None room are = are
-kept-with rows seen (Some kept) room are = still-kept rows seen kept room are
+kept-with rows seen None room are = subst (λ h. AreKeptSince seen (kept_of h)) (sym (left_none rows)) are
+kept-with rows seen (Some kept) room are = subst (λ h. AreKeptSince seen (kept_of h)) (sym (left_some rows kept)) (still-kept rows seen kept room are)
 
 -- Where none leaves, all stay.
 kept-without : (rows : List (List Cell)) (seen : ℕ) (history : Option Kept) → length rows ≤ 0 → AreKeptSince seen (kept_of history)
     → AreKeptSince seen (kept_of (with_left rows history))
-kept-without [] seen None none are = are
-kept-without [] seen (Some kept) none are = are
+kept-without [] seen history none are = are
 kept-without (row ∷ rows) seen history none are = absurd (omega (arith, none))
 
 -- Fewer bytes need no more room.
@@ -121,15 +120,15 @@ module _ (width height seen : ℕ) (before piece : List ℕ) (old new : Terminal
   abbrev left : List (List Cell)
   left = all_kept keeps made (after_all calls first)
 
-  history-is : (display_of new).history ≡ with_left left (display_of old).history
+  history-is : (screen_of new).history ≡ with_left left (screen_of old).history
   history-is =
-      let after : KeepsLeft keeps first (before ++ piece) (display_of new).history =
-      subst (λ k. KeepsLeft k first (before ++ piece) (display_of new).history) feeds.room.keeps_erased (feeds.stands first before stands).history in
+      let after : KeepsLeft keeps first (before ++ piece) (screen_of new).history =
+      subst (λ k. KeepsLeft k first (before ++ piece) (screen_of new).history) feeds.room.keeps_erased (feeds.stands first before stands).history in
       after.2
-      ∙ (ap (λ (l : List Call). with_left (all_kept keeps l first) (nothing_yet (display_of new).history)) (calls-more before piece calls after.0 stands.history.1 after.1)
+      ∙ (ap (λ (l : List Call). with_left (all_kept keeps l first) (nothing_yet (screen_of new).history)) (calls-more before piece calls after.0 stands.history.1 after.1)
       ∙ (ap (with_left (all_kept keeps (calls ++ made) first)) feeds.room.most
-      ∙ (ap (λ rows. with_left rows (nothing_yet (display_of old).history)) (all_kept-append keeps calls made first)
-      ∙ (with_left-append (all_kept keeps calls first) left (nothing_yet (display_of old).history)
+      ∙ (ap (λ rows. with_left rows (nothing_yet (screen_of old).history)) (all_kept-append keeps calls made first)
+      ∙ (with_left-append (all_kept keeps calls first) left (nothing_yet (screen_of old).history)
       ∙ ap (with_left left) (sym stands.history.2)))))
 
   few : length left ≤ most_leaving height (length piece)
@@ -145,7 +144,7 @@ module _ (width height seen : ℕ) (before piece : List ℕ) (old new : Terminal
       → AreKeptSince seen (history_of old) → AreKeptSince seen (history_of new)
   none-lost (inl none) are =
       subst (λ (h : Option Kept). AreKeptSince seen (kept_of h)) (sym history-is)
-      (kept-without left seen (display_of old).history (omega (arith, subst (λ n. length left ≤ most_leaving height n) none few)) are)
+      (kept-without left seen (screen_of old).history (omega (arith, subst (λ n. length left ≤ most_leaving height n) none few)) are)
   none-lost (inr room) are =
       subst (λ (h : Option Kept). AreKeptSince seen (kept_of h)) (sym history-is)
-      (kept-with left seen (display_of old).history (omega (arith, few, room)) are)
+      (kept-with left seen (screen_of old).history (omega (arith, few, room)) are)

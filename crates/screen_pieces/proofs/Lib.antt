@@ -3,6 +3,8 @@ pub mod KeepingLemmas
 pub mod CopyLemmas
 pub mod SendLemmas
 pub mod TextLemmas
+pub mod LineLemmas
+pub mod LineLawLemmas
 pub mod LinkLemmas
 pub mod WholeRowLemmas
 pub mod DrawingLemmas

@@ -16,8 +16,7 @@ use Rattle.ansi_screen.proofs.CharacterLemmas.{all-append}
 use Rattle.ansi_screen.proofs.KeptCalls.{kept-after}
 use Rattle.ansi_screen.proofs.KeptLemmas.{kept-if, kept-going_on, row-inside}
 use Rattle.ansi_screen.proofs.SizeLemmas.{sized-after, few-leave}
-use Rattle.ansi_screen.proofs.LeavingTable.{leaving, before_escape, before_leaving}
-use Rattle.ansi_screen.proofs.LeftLemmas.{rows_left-is}
+use Rattle.ansi_screen.proofs.LeavingTable.{leaving, before_escape, before_leaving, rows_left-is}
 use Rattle.screen_answers.specs.Kept.{is_kept, rows_kept, all_kept}
 use Rattle.screen_pieces.specs.History.{HasCells}
 

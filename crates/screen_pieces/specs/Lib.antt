@@ -8,6 +8,8 @@ pub mod Answers
 pub mod Terminal
 pub mod Same
 pub mod Page
+pub mod Rows
+pub mod Lines
 pub mod Modes
 pub mod Parts
 pub mod Palette

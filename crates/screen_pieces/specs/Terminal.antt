@@ -10,7 +10,8 @@ use Rattle.ansi_screen.specs.declared.cell.Cell.{Cell}
 use Rattle.ansi_screen.specs.After.{State, new_state, Shows, as_shown}
 use Rattle.ansi_screen.specs.Cells.{blank}
 use Rattle.ansi_screen.specs.Damage.{KeepsColumns}
-use Rattle.ansi_screen.specs.Display.{Display, row_cells, shown_cells}
+use Rattle.ansi_screen.specs.Display.{Display, row_cells}
+use Rattle.ansi_screen.specs.State.{shown_cells}
 use Rattle.ansi_screen.specs.History.{Kept, nothing_kept}
 use Rattle.ansi_screen.specs.Leaving.{unkept}
 use Rattle.ansi_screen.specs.Laws.{with_shown}
@@ -41,7 +42,7 @@ display_of terminal = (screen_of terminal).display
 
 -- what it keeps of the rows that left
 abbrev pub history_of : Terminal → Kept
-history_of terminal = kept_of (display_of terminal).history
+history_of terminal = kept_of (screen_of terminal).history
 
 -- its table of links, and those that this keeps, by their numbers
 abbrev pub table_of : Terminal → Table
@@ -97,7 +98,7 @@ KeepsLinks first bytes links = (calls : List Call) × AreCalls bytes calls × (l
 -- the first screen of a stream, with the picture from which on this one notes what changes: no call reads that, nor what
 -- is kept of the rows that left
 abbrev pub begun : (first : State) → Terminal → State
-begun first terminal = with_shown (display_of terminal).shown (unkept first)
+begun first terminal = with_shown (screen_of terminal).shown (unkept first)
 
 -- It stands after the bytes: its screen is the one that they lead to, from a first one on, its parser stands after
 -- them, and what it keeps are the last rows that left by them and the last links that began; and it has been asked for
@@ -105,7 +106,7 @@ begun first terminal = with_shown (display_of terminal).shown (unkept first)
 pub record StandsAfter (first : State) (bytes : List ℕ) (terminal : Terminal) : Type 0 where
   pub shows : Shows (begun first terminal) bytes (unkept (screen_of terminal))
   pub parser : IsAfter front_of terminal.parser bytes
-  pub history : KeepsLeft (keeps_erased_of terminal) first bytes (display_of terminal).history
+  pub history : KeepsLeft (keeps_erased_of terminal) first bytes (screen_of terminal).history
   pub links : KeepsLinks first bytes (table_of terminal)
   pub asked : HasAsked bytes (asked_of terminal)
   pub request : HasRequest bytes (request_of terminal)
@@ -144,7 +145,7 @@ pub record HasTheme (theme : Theme) (old new : Terminal) : Type 0 where
 
 -- There is as much room as before for rows that leave, and the same of them are kept.
 pub record SameRoom (old new : Terminal) : Type 0 where
-  pub most : nothing_yet (display_of new).history ≡ nothing_yet (display_of old).history
+  pub most : nothing_yet (screen_of new).history ≡ nothing_yet (screen_of old).history
   pub keeps_erased : keeps_erased_of new ≡ keeps_erased_of old
 
 -- It takes the next bytes of the stream: whatever bytes it stood after, it stands after these too. It forgets nothing
@@ -157,7 +158,7 @@ pub record Feeds (piece : List ℕ) (old new : Terminal) : Type 0 where
   pub answers : (before : List ℕ) → IsAfter front_of old.parser before → AnswersOn before piece old new
   pub theme : theme_of new ≡ theme_of old
   pub room : SameRoom old new
-  pub since : (display_of new).shown ≡ (display_of old).shown
+  pub since : (screen_of new).shown ≡ (screen_of old).shown
 
 -- It is one of the same size at the beginning of a stream, and all that can be asked for is told as set. No answer waits;
 -- the terminal's own colours stay. Here too it forgets nothing of what can have changed.
@@ -167,13 +168,13 @@ pub record Begins (old new : Terminal) : Type 0 where
   pub waiting : waiting_of new ≡ nothing_waits
   pub theme : theme_of new ≡ theme_of old
   pub room : SameRoom old new
-  pub since : (display_of new).shown ≡ (display_of old).shown
+  pub since : (screen_of new).shown ≡ (screen_of old).shown
 
 -- It is a new screen, with room for so many of the rows that leave it: of all, or of those that ED and RIS do not take
 -- away.
 pub record IsNew (columns rows history : ℕ) (keeps_erased : Bool) (terminal : Terminal) : Type 0 where
   pub stands : StandsAfter (new_state columns rows) [] terminal
-  pub room : (display_of terminal).history ≡ Some (nothing_kept history columns)
+  pub room : (screen_of terminal).history ≡ Some (nothing_kept history columns)
   pub erased : keeps_erased_of terminal ≡ keeps_erased
   pub asked : asked_of terminal ≡ nothing_asked
   pub waiting : waiting_of terminal ≡ nothing_waits
@@ -210,4 +211,4 @@ pub record CanHaveChanged (row first past : ℕ) (terminal : Terminal) : Type 0 
   pub row_within : row < (display_of terminal).height
   pub order : first ≤ past
   pub within : past ≤ (display_of terminal).width
-  pub kept : KeepsColumns first past (shown_cells row (display_of terminal)) (row_cells row (display_of terminal))
+  pub kept : KeepsColumns first past (shown_cells row (screen_of terminal)) (row_cells row (display_of terminal))

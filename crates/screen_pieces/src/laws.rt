@@ -1,7 +1,11 @@
-//! Laws of the rows that leave a screen, of copies, of what changes, and of what is told.
-ghost use Rattle.std.specs.Prelude.{◌≡◌, ◌≤◌, ℕ, Bool, List};
+//! Laws of the rows that leave a screen, of lines, of copies, of what changes, and of what is told.
+ghost use Rattle.std.specs.Prelude.{◌≡◌, ◌≤◌, ℕ, Bool, List, map};
+ghost use Rattle.std.specs.Str.{IsUtf8};
 ghost use Rattle.anstyle_parse.specs.Stream.Call.{Call};
 ghost use Rattle.ansi_answers.specs.declared.color.Theme.{Theme};
+ghost use Rattle.ansi_html.specs.Grammar.{IsFragment};
+ghost use Rattle.ansi_html.specs.Links.{IsLink};
+ghost use Rattle.ansi_html.specs.Reader.{href_of, read, drawn};
 ghost use Rattle.ansi_screen.specs.After.{State, new_state};
 ghost use Rattle.ansi_screen.specs.Damage.{KeepsColumns};
 ghost use Rattle.ansi_screen.specs.Display.{most_columns, most_rows, row_cells};
@@ -10,6 +14,8 @@ ghost use Rattle.screen_answers.specs.Kept.{all_kept};
 ghost use Rattle.screen_pieces.specs.declared.terminal.Terminal.{Terminal};
 ghost use Rattle.std.specs.List.{AllByRecursion};
 ghost use Rattle.screen_pieces.specs.History.{HasCells};
+ghost use Rattle.screen_pieces.specs.Page.{styling_numbered};
+ghost use Rattle.screen_pieces.specs.Rows.{lines_of, html_of_lines};
 ghost use Rattle.screen_pieces.specs.Terminal.{display_of, StandsAfter, IsCopy, Tells, TakesAnswers, HasTheme, Feeds, CanHaveChanged};
 
 /// Rows are whole: each that leaves a screen, whatever calls a new one has received, has a cell in each column; and so has
@@ -21,6 +27,23 @@ pub fn rows_are_whole()
     ensures kept { (columns rows : ℕ) (keeps_erased : Bool) (calls : List Call)
         → 2 ≤ columns → columns ≤ most_columns → 1 ≤ rows → rows ≤ most_rows
         → AllByRecursion (HasCells columns) (all_kept keeps_erased calls (new_state columns rows)) }
+{}
+
+/// The HTML of lines, of the rows of any number and in any styling, after any bytes from a new screen on: its lines are
+/// those of the text (`same`), no markup comes in (`grammar`), its links begin with https://, http:// or mailto:, and it
+/// is UTF-8.
+pub fn lines_are_fragments()
+    ensures same { (columns rows which styling : ℕ) (bytes : List ℕ) (terminal : Terminal)
+        → StandsAfter (new_state columns rows) bytes terminal
+        → drawn (html_of_lines which styling terminal) ≡ lines_of which terminal }
+    ensures grammar { (columns rows which styling : ℕ) (bytes : List ℕ) (terminal : Terminal)
+        → StandsAfter (new_state columns rows) bytes terminal
+        → IsFragment (styling_numbered styling) (html_of_lines which styling terminal) }
+    ensures links { (columns rows which styling : ℕ) (bytes : List ℕ) (terminal : Terminal)
+        → StandsAfter (new_state columns rows) bytes terminal
+        → AllByRecursion IsLink (map href_of (read (html_of_lines which styling terminal))) }
+    ensures utf8 { (columns rows which styling : ℕ) (bytes : List ℕ) (terminal : Terminal)
+        → StandsAfter (new_state columns rows) bytes terminal → IsUtf8 (html_of_lines which styling terminal) }
 {}
 
 /// What has changed is told: where a screen has forgotten what can have changed, and has then been fed a piece, each

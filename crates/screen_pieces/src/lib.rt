@@ -10,6 +10,7 @@ mod drawing;
 mod keeping;
 mod keys;
 pub mod laws;
+mod lines;
 mod modes;
 mod page;
 mod palette;

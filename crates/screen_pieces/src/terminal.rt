@@ -23,11 +23,11 @@ pub struct Terminal {
     parser: Parser,
     answering: Answering,
     // It keeps the last rows that leave it, of as many as it was opened with: maybe of none.
-    ghost keeps: { is_some answering.screen.display.history ≡ true },
+    ghost keeps: { is_some answering.screen.history ≡ true },
 }
 
 impl Terminal {
-    ghost use Rattle.screen_pieces.specs.Terminal.{screen_of, display_of, table_of, asked_of, waiting_of, answers_of, StandsAfter, Feeds, Begins, IsNew, IsCopy, Tells, TakesAnswers, HasTheme};
+    ghost use Rattle.screen_pieces.specs.Terminal.{screen_of, table_of, asked_of, waiting_of, answers_of, StandsAfter, Feeds, Begins, IsNew, IsCopy, Tells, TakesAnswers, HasTheme};
 
     /// A blank screen of so many columns and rows, at the beginning of a stream. `Err` means that memory is
     /// wanting.
@@ -116,7 +116,7 @@ impl Terminal {
 
     /// The rows that left the screen, of which it keeps the last.
     pub fn history(&self) -> &History
-        ensures { Some result.now ≡ (display_of self.now).history }
+        ensures { Some result.now ≡ (screen_of self.now).history }
     {
         self.screen().history().unwrap()
     }

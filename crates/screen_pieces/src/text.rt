@@ -1,10 +1,12 @@
 //! The text of cells, in the caller's room.
 ghost use Rattle.std.specs.Prelude.{◌≡◌, ◌<◌, ◌≤◌, ◌⊎◌, ◌∷◌, [], length, encode_utf8, IfOk, IfErr};
 ghost use Rattle.std.specs.List.{flat_map};
+ghost use Rattle.ansi_screen.specs.Grid.{IsBlankFrom};
 ghost use Rattle.ansi_screen.specs.Text.{cell_text, marks_text, row_text, text_of};
+ghost use Rattle.screen_text.specs.Lines.{row_text as line_text, closing};
 ghost use Rattle.screen_pieces.specs.Text.{HasText, LacksRoom};
 
-use ansi_screen::{Cell, LeftOut, Marks, Screen, used};
+use ansi_screen::{Cell, LeftOut, Marks, Screen, TakeRow, goes_on, used, used_of_written};
 use terminal_keys::TakeBytes;
 
 /// Puts text into a room that is lent to it, as far as it fits, and counts all of it.
@@ -12,6 +14,8 @@ use terminal_keys::TakeBytes;
 pub(crate) struct TextWriter<'a> {
     into: &'a mut [u8],
     needed: usize,
+    /// The last row that it took goes on.
+    is_open: bool,
 }
 
 /// Writes the bytes to the front of the room.
@@ -25,14 +29,20 @@ pub(crate) fn put_bytes(bytes: &[u8], room: &mut [u8]) -> Result<usize, usize>
 }
 
 impl<'a> TextWriter<'a> {
+    ghost use Rattle.std.specs.Prelude.{false};
     ghost use Rattle.screen_pieces.specs.Text.{most_length, Puts};
 
     pub(crate) fn new(into: &'a mut [u8]) -> TextWriter<'a>
         ensures same_reference { result.into.ghost_name ≡ into.entry.ghost_name }
         ensures bytes { result.into.now ≡ into.old }
         ensures nothing { result.needed ≡ 0 }
+        ensures closed { result.is_open ≡ false }
     {
-        TextWriter { into, needed: 0 }
+        TextWriter {
+            into,
+            needed: 0,
+            is_open: false,
+        }
     }
 
     /// How many bytes all of it takes: as an error, where it does not fit.
@@ -139,6 +149,30 @@ impl<'a> TextWriter<'a> {
         self.put_cells(&cells[..end]);
     }
 
+    /// A row of a line, up to the last cell in which something was printed; with a line feed, unless it goes on. Cells
+    /// from `written` on are plain blanks, and are not looked at.
+    pub(crate) fn put_line(&mut self, row: &[Cell], written: usize)
+        requires within { written ≤ length row.now }
+        requires rest { IsBlankFrom written row.now }
+        ensures { Puts (line_text row.now) self.old self.new }
+    {
+        let end = used_of_written(row, written, LeftOut::Unprinted);
+        self.put_cells(&row[..end]);
+        if !goes_on(row) {
+            self.put_byte(b'\n');
+        }
+    }
+
+    /// The end of the last line, where the last row goes on.
+    pub(crate) fn put_end(&mut self)
+        ensures { Puts (closing self.old.is_open) self.old self.new }
+    {
+        let is_open = self.is_open;
+        if is_open {
+            self.put_byte(b'\n');
+        }
+    }
+
     /// What a screen shows: each row without the blanks at its end, and a line feed, without the blank rows at
     /// the end.
     pub(crate) fn put_screen(&mut self, screen: &Screen)
@@ -165,4 +199,20 @@ impl<'a> TakeBytes for TextWriter<'a> {
     }
 
     ghost joins = { record { none = Puts-nil; more = Puts-append } };
+}
+
+/// A row is put as a part of a line.
+impl<'a> TakeRow for TextWriter<'a> {
+    ghost use Rattle.screen_pieces.specs.Lines.{PutsRow, PutsNothing};
+
+    ghost takes = { PutsRow };
+
+    ghost passes_on = { PutsNothing };
+
+    fn take_row(&mut self, row: &[Cell], written: usize) {
+        self.put_line(row, written);
+        self.is_open = goes_on(row);
+    }
+
+    fn pass_on(&mut self) {}
 }

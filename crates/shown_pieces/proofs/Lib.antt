@@ -1,4 +1,5 @@
 mod WrittenLemmas
+mod SaysLemmas
 mod RunningLemmas
 mod StageLemmas
 mod LogLemmas

@@ -18,19 +18,19 @@ use Rattle.screen_safe.specs.declared.rows.SafeRows.{SafeRows}
 use Rattle.screen_safe.specs.Writer as safe
 use Rattle.screen_html.specs.declared.rows.HtmlRows.{HtmlRows}
 use Rattle.screen_html.specs.Writer as html
-use Rattle.shown_pieces.specs.declared.running.Form.{Form}
+use Rattle.shown_pieces.specs.declared.how.Form.{Form}
 use Rattle.shown_pieces.specs.declared.following.Following.{Following}
-use Rattle.shown_pieces.specs.declared.running.Form.TheVariants.{Text, Safe, Html}
+use Rattle.shown_pieces.specs.declared.how.Form.TheVariants.{Text, Safe, Html}
 use Rattle.shown_pieces.specs.declared.running.Running.{Running}
 use Rattle.shown_pieces.specs.declared.running.Running.TheVariants.{AsText, AsSafe, AsHtml}
 use Rattle.shown_pieces.specs.Following.{Follows, Writes}
 use Rattle.shown_pieces.specs.Running.{Memory, IsEmpty, IsShowing, text_receives, safe_receives, html_receives}
-use Rattle.shown_pieces.specs.Shown.{left_as, ending_as, IsShown}
+use Rattle.shown_pieces.specs.Shown.{left_as, ending_as, IsShownByRows}
 
 pub is-shown : (size : ShownSize) (form its_form : Form) (bytes written : List ℕ) (text ending : List Call → List ℕ) → form ≡ its_form
     → ((calls : List Call) → text calls ≡ left_as its_form (screen_for size bytes) calls)
     → ((calls : List Call) → ending calls ≡ ending_as its_form (screen_for size bytes) calls)
-    → Writes text ending bytes written → IsShown size form bytes written
+    → Writes text ending bytes written → IsShownByRows size form bytes written
 is-shown size form its_form bytes written text ending is texts endings writes =
     let (calls, are, whole) = writes in (
       calls,
@@ -49,7 +49,7 @@ pub shown-by : {P : Type 0} (receives : P → List Call → P → Type 0) (outpu
     × Follows receives first bytes following)
     → IfSome found (λ text. (first : P) (bytes : List ℕ) → fault_in (output_in first) ≡ None → (writer_of (writer_in (output_in first))).items ≡ []
     → Follows receives first bytes following → Writes (text_from first) (ending_from first) bytes text.items)
-    → IfSome found (λ text. (size : ShownSize) (form : Form) (bytes : List ℕ) → Showing size form bytes → IsShown size form bytes text.items)
+    → IfSome found (λ text. (size : ShownSize) (form : Form) (bytes : List ℕ) → Showing size form bytes → IsShownByRows size form bytes text.items)
 shown-by receives output_in text_from ending_from following None Showing opens writes = tt
 shown-by receives output_in text_from ending_from following (Some text) Showing opens writes = λ size form bytes showing.
     let (its_form, is, first, start, texts, endings, follows) = opens size form bytes showing in
@@ -66,7 +66,7 @@ WritesAll {P} receives output_in text_of ending_of following found =
 -- What a screen has shown of it.
 abbrev ShowsAll : SinkOf Memory → Running → Option (Vec ℕ Global) → Type 0
 ShowsAll sink running found =
-    IfSome found (λ text. (size : ShownSize) (form : Form) (bytes : List ℕ) → IsShowing sink size form bytes bytes running → IsShown size form bytes text.items)
+    IfSome found (λ text. (size : ShownSize) (form : Form) (bytes : List ℕ) → IsShowing sink size form bytes bytes running → IsShownByRows size form bytes text.items)
 
 -- It takes the next bytes.
 abbrev TakesOn : SinkOf Memory → List ℕ → (running next : Running) → Type 0

@@ -1,5 +1,6 @@
 pub mod Following
 pub mod Shown
+pub mod Whole
 pub mod Running
 pub mod Stages
 pub mod Numbers

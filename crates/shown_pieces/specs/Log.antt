@@ -1,19 +1,19 @@
 -- A log that comes in pieces, and what calls do to it.
-use Rattle.std.specs.Prelude.{◌≡◌, ◌<◌, ◌≤◌, ◌⊎◌, ℕ, Bool, true, false, List, [], ◌++◌, length, drop}
+use Rattle.std.specs.Prelude.{◌≡◌, ◌<◌, ◌≤◌, ◌⊎◌, ℕ, Bool, true, false, List, [], ◌++◌, length, drop, Option}
 use Rattle.anstyle_parse.specs.declared.io.devices.Sink.{Ghosts as SinkOf}
 use Rattle.screen_text.specs.declared.recording.ShownSize.{ShownSize}
+use Rattle.shown_pieces.specs.declared.how.How.{How}
 use Rattle.shown_pieces.specs.declared.log.ShownLog.{ShownLog}
-use Rattle.shown_pieces.specs.declared.running.Form.{Form}
 use Rattle.shown_pieces.specs.Running.{Memory}
 use Rattle.shown_pieces.specs.Shown.{IsShown}
 use Rattle.shown_pieces.specs.Stages.{text_at, is_over, HasComeAt}
 
--- the size of its screen; the form in which is written what that showed; and what is written
-abbrev pub size_of : ShownLog → ShownSize
+-- the size of its screen, if it has one; how it is written; and what is written
+abbrev pub size_of : ShownLog → Option ShownSize
 size_of log = log.size
 
-abbrev pub form_of : ShownLog → Form
-form_of log = log.form
+abbrev pub how_of : ShownLog → How
+how_of log = log.how
 
 abbrev pub text_of : ShownLog → List ℕ
 text_of log = text_at log.stage
@@ -22,23 +22,23 @@ text_of log = text_at log.stage
 abbrev pub IsOver : ShownLog → Type 0
 IsOver log = is_over log.stage ≡ true
 
--- Its screen is of the same size, and it is written in the same form.
+-- Its screen is the same, and so is how it is written.
 abbrev pub IsAlike : (old new : ShownLog) → Type 0
-IsAlike old new = (new.size ≡ old.size) × (new.form ≡ old.form)
+IsAlike old new = (new.size ≡ old.size) × (new.how ≡ old.how)
 
 module _ (sink : SinkOf Memory) where
   -- These bytes of it have come.
   abbrev pub HasCome : List ℕ → ShownLog → Type 0
-  HasCome bytes log = HasComeAt sink log.size log.form bytes log.stage
+  HasCome bytes log = HasComeAt sink log.size log.how bytes log.stage
 
   -- It takes the next bytes: where some had come, these come after them.
   pub record Feeds (piece : List ℕ) (old new : ShownLog) : Type 0 where
     pub come : (before : List ℕ) → HasCome before old → HasCome (before ++ piece) new
     pub alike : IsAlike old new
 
-  -- It ends: what is written is what a screen of its size showed of all that came, in its form.
+  -- It ends: what is written is that of all that came, by its screen, and as it is asked for.
   pub record Ends (old new : ShownLog) : Type 0 where
-    pub shown : (bytes : List ℕ) → HasCome bytes old → IsShown old.size old.form bytes (text_of new)
+    pub shown : (bytes : List ℕ) → HasCome bytes old → IsShown old.size old.how bytes (text_of new)
     pub over : IsOver new
     pub alike : IsAlike old new
 

@@ -23,8 +23,8 @@ use Rattle.screen_safe.specs.Writer as safe
 use Rattle.screen_html.specs.declared.rows.HtmlRows.{HtmlRows}
 use Rattle.screen_html.specs.Shown.{left_html, ending_html}
 use Rattle.screen_html.specs.Writer as html
-use Rattle.shown_pieces.specs.declared.running.Form.{Form}
-use Rattle.shown_pieces.specs.declared.running.Form.TheVariants.{Text, Safe, Html}
+use Rattle.shown_pieces.specs.declared.how.Form.{Form}
+use Rattle.shown_pieces.specs.declared.how.Form.TheVariants.{Text, Safe, Html}
 use Rattle.shown_pieces.specs.declared.running.Running.{Running}
 use Rattle.shown_pieces.specs.declared.running.Running.TheVariants.{AsText, AsSafe, AsHtml}
 use Rattle.shown_pieces.specs.Following.{Follows}

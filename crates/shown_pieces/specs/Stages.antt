@@ -1,14 +1,20 @@
 -- The stages that a log goes through.
-use Rattle.std.specs.Prelude.{◌≡◌, ℕ, Bool, true, false, List, [], ◌++◌, Option, None, Some}
+use Rattle.std.specs.Prelude.{◌≡◌, ℕ, Bool, true, false, List, [], ◌++◌, Option, None, Some, if◌then◌else◌}
 use Rattle.std.specs.declared.alloc.Global.{Global}
 use Rattle.std.specs.declared.vec.Vec.{Vec}
 use Rattle.anstyle_parse.specs.declared.io.devices.Sink.{Ghosts as SinkOf}
 use Rattle.screen_text.specs.declared.recording.ShownSize.{ShownSize}
-use Rattle.shown_pieces.specs.declared.running.Form.{Form}
+use Rattle.shown_pieces.specs.declared.how.How.{How}
 use Rattle.shown_pieces.specs.declared.running.Running.{Running}
 use Rattle.shown_pieces.specs.declared.stage.Stage.{Stage}
-use Rattle.shown_pieces.specs.declared.stage.Stage.TheVariants.{Sizing, Showing, Ended, Failed}
+use Rattle.shown_pieces.specs.declared.stage.Stage.TheVariants.{Held, Showing, Ended, Failed}
 use Rattle.shown_pieces.specs.Running.{Memory, IsShowing}
+use Rattle.shown_pieces.specs.Shown.{goes_further}
+
+-- the size of the screen whose rows are written as they leave it, if they are
+abbrev pub size_of_rows : Option ShownSize → How → Option ShownSize
+size_of_rows None how = None
+size_of_rows (Some shown) how = if goes_further how then None else Some shown
 
 -- where there was memory a log goes on, or has ended
 abbrev pub showing_or_failed : Option Running → Stage
@@ -35,11 +41,12 @@ is_over Failed = true
 is_over stage = false
 
 -- These bytes of a log have come, of which the rest is still to come.
-abbrev pub HasComeOf : SinkOf Memory → ShownSize → Form → (bytes rest : List ℕ) → Stage → Type 0
-HasComeOf sink size form bytes rest (Sizing front) = front.items ≡ bytes
-HasComeOf sink size form bytes rest (Showing running) = IsShowing sink size form (bytes ++ rest) bytes running
-HasComeOf sink size form bytes rest stage = ⊥
+abbrev pub HasComeOf : SinkOf Memory → Option ShownSize → How → (bytes rest : List ℕ) → Stage → Type 0
+HasComeOf sink size how bytes rest (Held held) = held.items ≡ bytes
+HasComeOf sink size how bytes rest (Showing running) =
+    (shown : ShownSize) × (size_of_rows size how ≡ Some shown) × IsShowing sink shown how.form (bytes ++ rest) bytes running
+HasComeOf sink size how bytes rest stage = ⊥
 
 -- They have come, whatever comes after them.
-abbrev pub HasComeAt : SinkOf Memory → ShownSize → Form → List ℕ → Stage → Type 0
-HasComeAt sink size form bytes stage = (rest : List ℕ) → HasComeOf sink size form bytes rest stage
+abbrev pub HasComeAt : SinkOf Memory → Option ShownSize → How → List ℕ → Stage → Type 0
+HasComeAt sink size how bytes stage = (rest : List ℕ) → HasComeOf sink size how bytes rest stage

@@ -1,7 +1,7 @@
-//! What a screen showed of a log that comes in pieces: as text, as safe text or as HTML, in memory.
+//! A log that comes in pieces, or what a screen showed of it: as text, as safe text or as HTML, in memory.
 //!
 //! ```
-//! let mut log = ShownLog::new(alloc, ShownSize::Recorded, Form::Text);
+//! let mut log = ShownLog::new(alloc, Some(ShownSize::Recorded), How::of(Form::Text));
 //! log.feed(b" 10%\r 50");
 //! log.feed(b"%\r100%\n");
 //! log.end();
@@ -9,13 +9,17 @@
 //! ```
 #![tactic(auto)]
 
+mod converted;
 mod following;
+mod how;
+mod html;
 mod log;
 mod numbers;
 mod running;
 mod stage;
+mod whole;
 
 pub use following::Memory;
+pub use how::{Form, How};
 pub use log::ShownLog;
-pub use numbers::{form_at, size_at};
-pub use running::Form;
+pub use numbers::{form_at, screen_at, size_at};

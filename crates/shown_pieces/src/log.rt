@@ -1,10 +1,11 @@
-//! A log that comes in pieces, and what a screen showed of it.
-ghost use Rattle.std.specs.Prelude.{◌≡◌, [], true, IfOk, IfErr};
+//! A log that comes in pieces, and what is written of it.
+ghost use Rattle.std.specs.Prelude.{◌≡◌, [], true, IfSome, IfOk, IfErr};
 ghost use Rattle.std.specs.Bool.{OnTrue, OnFalse};
+ghost use Rattle.std.proofs.Props.{props};
 ghost use Rattle.screen_text.specs.Recording.{CanBeShown};
 
 use crate::following::Memory;
-use crate::running::Form;
+use crate::how::How;
 use crate::stage::Stage;
 use anstyle_parse::io::Sink;
 use screen_text::ShownSize;
@@ -12,34 +13,35 @@ use std::alloc::Global;
 use std::mem::replace;
 use stream_state::put_at_start;
 
-/// A log that comes in pieces, and what a screen of this size showed of it, in this form, once it has ended.
+/// A log that comes in pieces, and, once it has ended, what is written of it, or of what a screen of this size showed of
+/// it.
 ///
 /// It is read as the programs read a log ([`advance_log`](anstyle_parse::Parser::advance_log)). Memory is taken by
 /// [`ShownLog::feed`] and [`ShownLog::end`] alone.
 #[derive(Drop)]
 pub struct ShownLog {
     alloc: Global,
-    size: ShownSize,
-    form: Form,
+    size: Option<ShownSize>,
+    how: How,
     stage: Stage,
-    ghost can_be: { CanBeShown size },
+    ghost can_be: { IfSome size CanBeShown } by { Prim.hlevel props },
 }
 
 impl ShownLog {
-    ghost use Rattle.shown_pieces.specs.Log.{size_of, form_of, text_of, HasCome, Feeds, Ends, Refuses, HasText, LacksRoom};
+    ghost use Rattle.shown_pieces.specs.Log.{size_of, how_of, text_of, HasCome, Feeds, Ends, Refuses, HasText, LacksRoom};
 
-    /// A log of which nothing has come, for a screen of a size that screens can have.
-    pub fn new(alloc: Global, size: ShownSize, form: Form) -> ShownLog
-        requires { CanBeShown size }
+    /// A log of which nothing has come, for a screen of a size that screens can have, or for none.
+    pub fn new(alloc: Global, size: Option<ShownSize>, how: How) -> ShownLog
+        requires { IfSome size CanBeShown }
         ensures size { size_of result ≡ size }
-        ensures form { form_of result ≡ form }
+        ensures how { how_of result ≡ how }
         ensures begins { HasCome ⟦<Memory as Sink>⟧ [] result }
     {
         ShownLog {
             alloc,
             size,
-            form,
-            stage: Stage::Sizing(Vec::new(alloc)),
+            how,
+            stage: Stage::Held(Vec::new(alloc)),
         }
     }
 
@@ -53,11 +55,11 @@ impl ShownLog {
             return false;
         }
         let stage = replace(&mut self.stage, Stage::Failed);
-        self.stage = stage.fed(self.alloc, self.size, self.form, piece);
+        self.stage = stage.fed(self.alloc, self.size, self.how, piece);
         !self.stage.is_over()
     }
 
-    /// Ends the log: then what the screen showed of all of it is written. It answers false where memory is wanting, where
+    /// Ends the log: then what is to be written of all of it is. It answers false where memory is wanting, where
     /// it was before, and after the end: then nothing happens.
     pub fn end(&mut self) -> bool
         ensures ended { OnTrue result (Ends ⟦<Memory as Sink>⟧ self.old self.new) }
@@ -67,7 +69,7 @@ impl ShownLog {
             return false;
         }
         let stage = replace(&mut self.stage, Stage::Failed);
-        self.stage = stage.at_end(self.alloc, self.size, self.form);
+        self.stage = stage.at_end(self.alloc, self.size, self.how);
         self.stage.has_text()
     }
 

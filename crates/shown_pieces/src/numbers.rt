@@ -1,9 +1,9 @@
 //! Sizes and forms by numbers, as C says them.
 ghost use Rattle.std.specs.Prelude.{◌≡◌, IfSome};
 ghost use Rattle.screen_text.specs.Recording.{CanBeShown};
-ghost use Rattle.shown_pieces.specs.Numbers.{size_numbered, styling_numbered, form_numbered};
+ghost use Rattle.shown_pieces.specs.Numbers.{size_numbered, screen_numbered, styling_numbered, form_numbered};
 
-use crate::running::Form;
+use crate::how::Form;
 use ansi_html::{Scheme, Styling};
 use ansi_screen::Size;
 use screen_text::ShownSize;
@@ -19,6 +19,20 @@ pub fn size_at(columns: usize, rows: usize) -> Option<ShownSize>
     }
     match Size::of(columns, rows) {
         Some(size) => Some(ShownSize::Fixed(size)),
+        None => None,
+    }
+}
+
+/// The same, or no screen, where a number that is not 0 asks for none. `None` where no screen can have the size.
+pub fn screen_at(no_screen: u8, columns: usize, rows: usize) -> Option<Option<ShownSize>>
+    ensures screen { result ≡ screen_numbered no_screen columns rows }
+    ensures can_be { IfSome result (λ size. IfSome size CanBeShown) }
+{
+    if no_screen != 0 {
+        return Some(None);
+    }
+    match size_at(columns, rows) {
+        Some(size) => Some(Some(size)),
         None => None,
     }
 }

@@ -2,12 +2,13 @@
 ghost use Rattle.std.specs.Prelude.{◌≡◌, ◌++◌, ◌⊎◌, [], true, ℕ, List, IfSome};
 ghost use Rattle.screen_text.specs.declared.recording.ShownSize.{ShownSize as AShownSize};
 ghost use Rattle.screen_text.specs.Recording.{is_decided, screen_for, CanBeShown};
-ghost use Rattle.shown_pieces.specs.declared.running.Form.{Form as AForm};
-ghost use Rattle.shown_pieces.specs.declared.running.Form.TheVariants.{Text as AText, Safe as ASafe, Html as AHtml};
+ghost use Rattle.shown_pieces.specs.declared.how.Form.{Form as AForm};
+ghost use Rattle.shown_pieces.specs.declared.how.Form.TheVariants.{Text as AText, Safe as ASafe, Html as AHtml};
 ghost use Rattle.shown_pieces.specs.Running.{IsEmpty, IsShowing};
-ghost use Rattle.shown_pieces.specs.Shown.{IsShown};
+ghost use Rattle.shown_pieces.specs.Shown.{IsShownByRows};
 
 use crate::following::{Following, Memory};
+use crate::how::Form;
 use ansi_html::Styling;
 use ansi_screen::Scrollable;
 use anstyle_parse::io::{FromWrite, Output, Sink};
@@ -15,17 +16,6 @@ use screen_html::{HtmlRows, LinkMemory};
 use screen_safe::SafeRows;
 use screen_text::{ShownSize, ShownWriter, TextRows};
 use std::alloc::Global;
-
-/// The form in which is written what a screen showed.
-#[derive(Clone, Copy, Debug, PartialEq, Eq)]
-pub enum Form {
-    /// Text, as [`screen_text::write_shown`] writes it.
-    Text,
-    /// Safe text, as [`screen_safe::write_safe_shown`] does.
-    Safe,
-    /// HTML that says styles so, as [`screen_html::convert_shown`] does.
-    Html(Styling),
-}
 
 /// A screen that follows a log, and writes to memory.
 #[derive(Drop)]
@@ -36,7 +26,7 @@ pub(crate) enum Running {
 }
 
 /// An output to memory, which is empty.
-fn in_memory(alloc: Global) -> Output<Memory>
+pub(crate) fn in_memory(alloc: Global) -> Output<Memory>
     ensures { IsEmpty result }
 {
     Output::new(FromWrite::new(Vec::new(alloc)))
@@ -139,12 +129,24 @@ impl Running {
     /// What is written of all of the log, which ends; `None` where memory is wanting.
     pub(crate) fn into_text(self) -> Option<Vec<u8>>
         ensures { IfSome result (λ text. (size : AShownSize) (form : AForm) (bytes : List ℕ)
-            → IsShowing ⟦<Memory as Sink>⟧ size form bytes bytes self → IsShown size form bytes text.items) }
+            → IsShowing ⟦<Memory as Sink>⟧ size form bytes bytes self → IsShownByRows size form bytes text.items) }
     {
         match self {
             Running::AsText(following) => following.into_text(),
             Running::AsSafe(following) => following.into_text(),
             Running::AsHtml(following) => following.into_text(),
         }
+    }
+}
+
+/// A screen for a log that begins with these bytes, which it has received; `None` where memory is wanting.
+pub(crate) fn begun(alloc: Global, size: ShownSize, form: Form, front: &[u8]) -> Option<Running>
+    requires { CanBeShown size }
+    ensures { IfSome result (λ running. (rest : List ℕ) → (is_decided size front.now ≡ true) ⊎ (rest ≡ [])
+        → IsShowing ⟦<Memory as Sink>⟧ size form (front.now ++ rest) front.now running) }
+{
+    match Running::new(alloc, size, form, front) {
+        Some(running) => running.take(front),
+        None => None,
     }
 }

@@ -1,12 +1,13 @@
 //! The stages that a log goes through.
 ghost use Rattle.std.specs.Prelude.{◌≡◌, ◌++◌, ◌⊎◌, [], true, false, ℕ, List, IfSome};
-ghost use Rattle.screen_text.specs.Recording.{is_decided, CanBeShown};
-ghost use Rattle.shown_pieces.specs.Running.{IsShowing};
+ghost use Rattle.screen_text.specs.Recording.{CanBeShown};
 ghost use Rattle.shown_pieces.specs.Shown.{IsShown};
-ghost use Rattle.shown_pieces.specs.Stages.{showing_or_failed, ended_or_failed, text_at, is_over, has_text, HasComeAt};
+ghost use Rattle.shown_pieces.specs.Stages.{size_of_rows, showing_or_failed, ended_or_failed, text_at, is_over, has_text, HasComeAt};
 
+use crate::converted::of_whole;
 use crate::following::Memory;
-use crate::running::{Form, Running};
+use crate::how::How;
+use crate::running::{Running, begun};
 use anstyle_parse::io::Sink;
 use screen_text::ShownSize;
 use std::alloc::Global;
@@ -14,9 +15,10 @@ use std::alloc::Global;
 /// How far a log has come.
 #[derive(Drop)]
 pub(crate) enum Stage {
-    /// These bytes at its front do not decide yet which size its screen has.
-    Sizing(Vec<u8>),
-    /// A screen follows it.
+    /// These bytes of it are held: they do not decide yet which size its screen has, or it is converted once it has
+    /// ended.
+    Held(Vec<u8>),
+    /// A screen follows it, whose rows are written.
     Showing(Running),
     /// It has ended, and this is written.
     Ended(Vec<u8>),
@@ -44,14 +46,19 @@ fn ended(text: Option<Vec<u8>>) -> Stage
     }
 }
 
-/// A screen for a log that begins with these bytes, which it has received; `None` where memory is wanting.
-fn begun(alloc: Global, size: ShownSize, form: Form, front: &[u8]) -> Option<Running>
-    requires { CanBeShown size }
-    ensures { IfSome result (λ running. (rest : List ℕ) → (is_decided size front.now ≡ true) ⊎ (rest ≡ [])
-        → IsShowing ⟦<Memory as Sink>⟧ size form (front.now ++ rest) front.now running) }
+/// The size of the screen whose rows are written as they leave it, if they are.
+fn size_of_rows(size: Option<ShownSize>, how: How) -> Option<ShownSize>
+    ensures rows { result ≡ size_of_rows size how }
+    ensures can_be { IfSome size CanBeShown → IfSome result CanBeShown }
 {
-    match Running::new(alloc, size, form, front) {
-        Some(running) => running.take(front),
+    match size {
+        Some(shown) => {
+            if how.goes_further() {
+                None
+            } else {
+                Some(shown)
+            }
+        }
         None => None,
     }
 }
@@ -82,52 +89,72 @@ impl Stage {
     }
 
     /// The stage after the next bytes of a log that is not over.
-    pub(crate) fn fed(self, alloc: Global, size: ShownSize, form: Form, piece: &[u8]) -> Stage
-        requires { CanBeShown size }
+    pub(crate) fn fed(self, alloc: Global, size: Option<ShownSize>, how: How, piece: &[u8]) -> Stage
+        requires { IfSome size CanBeShown }
         ensures come { is_over result ≡ false → (before : List ℕ)
-            → HasComeAt ⟦<Memory as Sink>⟧ size form before self
-            → HasComeAt ⟦<Memory as Sink>⟧ size form (before ++ piece.now) result }
+            → HasComeAt ⟦<Memory as Sink>⟧ size how before self
+            → HasComeAt ⟦<Memory as Sink>⟧ size how (before ++ piece.now) result }
         ensures failed { is_over result ≡ true → text_at result ≡ [] }
     {
         match self {
-            Stage::Sizing(front) => sized(alloc, size, form, front, piece),
+            Stage::Held(front) => held(alloc, size, how, front, piece),
             Stage::Showing(running) => showing(running.take(piece)),
             Stage::Ended(_) | Stage::Failed => Stage::Failed,
         }
     }
 
     /// The stage after the end of a log that is not over.
-    pub(crate) fn at_end(self, alloc: Global, size: ShownSize, form: Form) -> Stage
-        requires { CanBeShown size }
+    pub(crate) fn at_end(self, alloc: Global, size: Option<ShownSize>, how: How) -> Stage
+        requires { IfSome size CanBeShown }
         ensures shown { has_text result ≡ true → (bytes : List ℕ)
-            → HasComeAt ⟦<Memory as Sink>⟧ size form bytes self → IsShown size form bytes (text_at result) }
+            → HasComeAt ⟦<Memory as Sink>⟧ size how bytes self → IsShown size how bytes (text_at result) }
         ensures ended { is_over result ≡ true }
         ensures failed { has_text result ≡ false → text_at result ≡ [] }
     {
         match self {
-            Stage::Sizing(front) => match begun(alloc, size, form, front.as_slice()) {
-                Some(running) => ended(running.into_text()),
-                None => Stage::Failed,
-            },
+            Stage::Held(log) => ended(of_whole(alloc, size, how, log.as_slice())),
             Stage::Showing(running) => ended(running.into_text()),
             Stage::Ended(_) | Stage::Failed => Stage::Failed,
         }
     }
 }
 
-/// The stage after the next bytes of a log that begins with these: a screen follows it, where they decide its size.
-fn sized(alloc: Global, size: ShownSize, form: Form, front: Vec<u8>, piece: &[u8]) -> Stage
-    requires { CanBeShown size }
+/// The stage after the next bytes of a log of which these are held.
+fn held(alloc: Global, size: Option<ShownSize>, how: How, front: Vec<u8>, piece: &[u8]) -> Stage
+    requires { IfSome size CanBeShown }
     ensures come { is_over result ≡ false
-        → HasComeAt ⟦<Memory as Sink>⟧ size form (front.items ++ piece.now) result }
+        → HasComeAt ⟦<Memory as Sink>⟧ size how (front.items ++ piece.now) result }
     ensures failed { is_over result ≡ true → text_at result ≡ [] }
 {
-    let mut front = front;
-    if front.extend_from_slice(piece).is_err() {
-        return Stage::Failed;
+    match extended(front, piece) {
+        Some(both) => sized(alloc, size, how, both),
+        None => Stage::Failed,
     }
-    if !size.is_decided(front.as_slice()) {
-        return Stage::Sizing(front);
+}
+
+/// These bytes and a piece after them; `None` where memory is wanting.
+fn extended(front: Vec<u8>, piece: &[u8]) -> Option<Vec<u8>>
+    ensures { IfSome result (λ both. both.items ≡ front.items ++ piece.now) }
+{
+    let mut both = front;
+    if both.extend_from_slice(piece).is_err() {
+        return None;
     }
-    showing(begun(alloc, size, form, front.as_slice()))
+    Some(both)
+}
+
+/// The stage of a log that begins with these bytes: a screen follows it, where its rows are written and they decide its
+/// size.
+fn sized(alloc: Global, size: Option<ShownSize>, how: How, front: Vec<u8>) -> Stage
+    requires { IfSome size CanBeShown }
+    ensures come { is_over result ≡ false → HasComeAt ⟦<Memory as Sink>⟧ size how front.items result }
+    ensures failed { is_over result ≡ true → text_at result ≡ [] }
+{
+    let Some(shown) = size_of_rows(size, how) else {
+        return Stage::Held(front);
+    };
+    if !shown.is_decided(front.as_slice()) {
+        return Stage::Held(front);
+    }
+    showing(begun(alloc, shown, how.form, front.as_slice()))
 }

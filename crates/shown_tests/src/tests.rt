@@ -1,6 +1,6 @@
 //! Rows that were worked by hand. The same bytes as the programs': tests/screen_library.
 use screen_text::ShownSize;
-use shown_pieces::{Form, ShownLog, form_at, size_at};
+use shown_pieces::{Form, How, ShownLog, form_at, screen_at, size_at};
 use std::alloc::Global;
 use std::fmt::Debug;
 use std::process::Abort;
@@ -33,7 +33,7 @@ fn assert_shown(rt: &impl Abort, log: &mut ShownLog, wanted: &[u8]) {
 
 /// A log that goes by the size that it says.
 fn begun(alloc: Global, form: Form) -> ShownLog {
-    ShownLog::new(alloc, ShownSize::Recorded, form)
+    ShownLog::new(alloc, Some(ShownSize::Recorded), How::of(form))
 }
 
 #[test]
@@ -71,8 +71,42 @@ fn sizes(rt: HostRuntime) -> Result<(), Fail> {
     let Some(size) = size_at(2, 1) else {
         return Ok(());
     };
-    let mut log = ShownLog::new(rt.alloc(), size, Form::Text);
+    let mut log = ShownLog::new(rt.alloc(), Some(size), How::of(Form::Text));
     assert_fed(&rt, &mut log, b"abc");
     assert_shown(&rt, &mut log, b"abc\n");
+    Ok(())
+}
+
+/// A log with hidden text, an address and two lines, and how it is written.
+const HIDDEN: &[u8] = b"a\x1b[8mb\x1b[28mc\rhttp://a\n\x1b[1m<";
+
+fn assert_written(rt: &impl Abort, alloc: Global, no_screen: u8, how: How, wanted: &[u8]) {
+    let Some(size) = screen_at(no_screen, 80, 24) else {
+        return;
+    };
+    let mut log = ShownLog::new(alloc, size, how);
+    for piece in HIDDEN.chunks(5) {
+        assert_fed(rt, &mut log, piece);
+    }
+    assert_shown(rt, &mut log, wanted);
+}
+
+#[test]
+fn without_hidden(rt: HostRuntime) -> Result<(), Fail> {
+    let mut how = How::of(Form::Text);
+    assert_written(&rt, rt.alloc(), 0, how, b"http://a\n<\n");
+    assert_written(&rt, rt.alloc(), 1, how, b"abc\rhttp://a\n<");
+    how.no_hidden = true;
+    assert_written(&rt, rt.alloc(), 1, how, b"ac\rhttp://a\n<");
+    Ok(())
+}
+
+#[test]
+fn in_lines(rt: HostRuntime) -> Result<(), Fail> {
+    let mut how = How::of(form_at(2, 3));
+    how.has_urls = true;
+    let wanted =
+        b"<a rel=\"nofollow noreferrer\" href=\"http://a\" class=\"ansi-link\">http://a</a>\n<span class=\"ansi-bold\">&lt;</span>\n";
+    assert_written(&rt, rt.alloc(), 0, how, wanted);
     Ok(())
 }

@@ -9,6 +9,7 @@
 #![tactic(auto)]
 
 mod begin;
+pub mod laws;
 mod performer;
 
 pub use begin::LeavingOut;

@@ -37,8 +37,8 @@ returns c =
             shows = subst (λ (q : Picture). Shows (with_shown q (unkept first)) (before ++ c.args.piece.now) (unkept new)) (sym stays)
                 (shows-more _ (unkept old) (unkept new) before _ calls continues (unkept-led calls before_all after_all made) stands.shows);
             parser = c.advance_texts.ensures.stands before stands.parser;
-            history = keeps-more first old.display.shown before _ calls before_all after_all continues stands.shows stands.history made;
-            links = links-more first old old.display.shown before _ calls _ _ continues stands.shows stands.links made.links;
+            history = keeps-more first old.shown before _ calls before_all after_all continues stands.shows stands.history made;
+            links = links-more first old old.shown before _ calls _ _ continues stands.shows stands.links made.links;
             asked = asks-more before c.args.piece.now calls (asked_of c.args.self.now) after_all.asked continues made.asked stands.asked;
             request = requests-more before c.args.piece.now calls (request_of c.args.self.now) after_all.request continues made.request stands.request;
           };

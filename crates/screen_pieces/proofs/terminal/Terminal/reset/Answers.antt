@@ -26,7 +26,7 @@ returns c =
         shows = (
           [],
           AreCalls-nil,
-          with-own _ (new_state old.display.width old.display.height) old.display.shown (ap unkept led),
+          with-own _ (new_state old.display.width old.display.height) old.shown (ap unkept led),
         );
         parser = c.new-self.ensures.stands;
         history = ([], AreCalls-nil, cleared-left _ new c.clear_history.ensures);
@@ -38,5 +38,5 @@ returns c =
       waiting = c.take_all.ensures.left;
       theme = refl;
       room = record { most = cleared-room _ new c.clear_history.ensures ∙ room-stays (reset ∷ []) old _ c.esc_dispatch.ensures; keeps_erased = refl };
-      since = ap (λ (s : State). s.display.shown) led;
+      since = ap (λ (s : State). s.shown) led;
     }

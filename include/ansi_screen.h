@@ -3,8 +3,8 @@
  *
  * A stream comes in pieces of any size, cut anywhere: the screen after it is the same. No input is refused. Memory is
  * taken by ansi_screen_open, ansi_screen_open_with and ansi_screen_copy (malloc), and given back by ansi_screen_close (free);
- * by ansi_screen_draw, ansi_screen_update and ansi_screen_html while they work; and by no other call. The library has no data
- * of its own: threads may call it at the same time, each with a screen of its own.
+ * by ansi_screen_draw, ansi_screen_update, ansi_screen_html and ansi_screen_lines_html while they work; and by no other call.
+ * The library has no data of its own: threads may call it at the same time, each with a screen of its own.
  *
  *     ansi_screen screen = {0};
  *     unsigned char text[ANSI_SCREEN_ROW_ROOM(80)];
@@ -431,6 +431,24 @@ bool ansi_screen_history_row(ansi_screen *screen, size_t number, ansi_cell *cell
 
 /* As ansi_screen_row_text, of a row that is kept. */
 bool ansi_screen_history_text(ansi_screen *screen, size_t number, unsigned char *room, size_t size, size_t *written);
+
+/* Rows of a screen, by the numbers that the two calls below take. Any other number is 0. */
+enum {
+    ANSI_ROWS_SHOWN = 0, /* those that show, up to the last in which something was printed */
+    ANSI_ROWS_LEFT = 1,  /* those that left and are kept, from the oldest on */
+    ANSI_ROWS_ALL = 2    /* those that left, then those that show; where the alternate screen does, the main one's between them */
+};
+
+/* Rows as lines of text, as those of text are written: a row that goes on and the next one are one line, each row is written up to
+ * the last cell in which something was printed, and the last line ends too. As long as all that left are kept, without
+ * `drops_erased`, ANSI_ROWS_ALL is what ansi2text(1) writes with --shown on this size of a stream that is as ansi_screen_html says. */
+bool ansi_screen_lines(ansi_screen *screen, unsigned char which, unsigned char *room, size_t size, size_t *written);
+
+/* The same rows as HTML, as ansi_screen_html writes those that show; memory is taken while it works. Links are those that are kept
+ * now, as ansi_screen_link has them: of a row that left before RIS, its number may be another link's by then. They pay with what is
+ * spare now, and not with what was as the row left. */
+bool ansi_screen_lines_html(ansi_screen *screen, unsigned char which, unsigned char styling,
+                            unsigned char *room, size_t size, size_t *written);
 
 #ifdef __cplusplus
 }

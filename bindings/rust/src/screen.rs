@@ -23,8 +23,8 @@
 //! It can't be resized: [`events`](crate::events) of the same bytes tell what asks for that.
 //!
 //! Its library takes memory by `malloc`: in [`Screen::new`], [`Screen::with_history`], [`Screen::with_scrolled_history`] and
-//! [`Screen::try_clone`], and in [`Screen::draw`], [`Screen::update`], [`Screen::to_html`], [`Screen::key`], [`Screen::mouse`],
-//! [`Screen::paste`] and [`Screen::focus`] while they work.
+//! [`Screen::try_clone`], and in [`Screen::draw`], [`Screen::update`], [`Screen::to_html`], [`Screen::lines_html`], [`Screen::key`],
+//! [`Screen::mouse`], [`Screen::paste`] and [`Screen::focus`] while they work.
 
 mod answers;
 mod keys;
@@ -36,7 +36,7 @@ pub use keys::{
     Action, Asked, Button, Encoding, Event, Held, Key, Mouse, Move, Pad, Shape, Tracking, Wheel,
 };
 pub use parts::{color_rgb, Charsets, Saved};
-pub use shown::{shown, CannotShow, Form, ShownLog};
+pub use shown::{shown, CannotShow, Form, How, ShownLog};
 
 use crate::Styling;
 use alloc::string::String;
@@ -190,6 +190,23 @@ unsafe extern "C" {
 
     fn ansi_screen_html(
         screen: *mut Handle,
+        styling: u8,
+        room: *mut u8,
+        size: usize,
+        written: *mut usize,
+    ) -> bool;
+
+    fn ansi_screen_lines(
+        screen: *mut Handle,
+        which: u8,
+        room: *mut u8,
+        size: usize,
+        written: *mut usize,
+    ) -> bool;
+
+    fn ansi_screen_lines_html(
+        screen: *mut Handle,
+        which: u8,
         styling: u8,
         room: *mut u8,
         size: usize,
@@ -376,6 +393,17 @@ pub struct Modes {
     pub cursor_shape: Shape,
     /// It blinks.
     pub cursor_blinks: bool,
+}
+
+/// Rows of a screen that are written as lines: a row from which autowrap went on and the next one are one line.
+#[derive(Clone, Copy, Debug, PartialEq, Eq, Hash)]
+pub enum Rows {
+    /// Those that show, up to the last in which something was printed.
+    Shown = 0,
+    /// Those that left and are kept, from the oldest on.
+    Left = 1,
+    /// Those that left, and then what still shows: where the alternate screen does, that of the main one first.
+    All = 2,
 }
 
 /// There is no screen of that size, or no memory for it.
@@ -622,6 +650,21 @@ impl Screen {
         })
     }
 
+    /// Rows of it as HTML, as [`Screen::to_html`] has those that show, in lines as [`Screen::lines`]. The last 1,024 links are kept
+    /// for them, and after RIS a row that left before it can have a later link of the same number.
+    pub fn lines_html(&self, rows: Rows, styling: Styling) -> String {
+        self.read(|handle, room, written| unsafe {
+            ansi_screen_lines_html(
+                handle,
+                rows as u8,
+                styling as u8,
+                room.as_mut_ptr(),
+                room.len(),
+                written,
+            )
+        })
+    }
+
     /// The bytes after which any terminal of its size shows this screen: all but links and which rows go on. Memory is
     /// taken while they are made; where there is none, there are none.
     pub fn draw(&self) -> Vec<u8> {
@@ -701,6 +744,14 @@ impl Screen {
     pub fn text(&self) -> String {
         self.read(|handle, room, written| unsafe {
             ansi_screen_text(handle, room.as_mut_ptr(), room.len(), written)
+        })
+    }
+
+    /// Rows of it as lines of text: a row from which autowrap went on and the next one are one, and of each what was printed stays,
+    /// blanks too, as `ansi2text --shown` writes them.
+    pub fn lines(&self, rows: Rows) -> String {
+        self.read(|handle, room, written| unsafe {
+            ansi_screen_lines(handle, rows as u8, room.as_mut_ptr(), room.len(), written)
         })
     }
 

@@ -2,8 +2,8 @@
 //! repository.)
 #![cfg(feature = "screen")]
 
-use ansi_proved::screen::{Action, Button, CannotOpen, Cell, Color, Encoding, Event, Held, Key, Mouse, Move, Pad, Part, Place, Screen, Shape, Style};
-use ansi_proved::screen::{self, CannotShow, Form, ShownLog};
+use ansi_proved::screen::{Action, Button, CannotOpen, Cell, Color, Encoding, Event, Held, Key, Mouse, Move, Pad, Part, Place, Rows, Screen, Shape, Style};
+use ansi_proved::screen::{self, CannotShow, Form, How, ShownLog};
 use ansi_proved::screen::{Answers, Colors, Rgb, Tracking, Wheel};
 use ansi_proved::{to_html, Styling};
 use std::collections::HashSet;
@@ -175,6 +175,20 @@ fn links_and_html() {
     }
 }
 
+/// A row that goes on across the top of the screen, with what was printed as blanks, and a link.
+#[test]
+fn rows_are_written_as_lines() {
+    let mut screen = Screen::with_history(4, 2, 2).unwrap();
+    screen.feed(b"lost\r\n\x1b[1mbo\x1b[m  \r\n\x1b]8;;http://x\x1b\\l\x1b]8;;\x1b\\<xyz\r\n");
+    let texts = [Rows::Shown, Rows::Left, Rows::All].map(|rows| screen.lines(rows));
+    assert_eq!(texts, ["z\n", "bo  \nl<xy\n", "bo  \nl<xyz\n"]);
+    let (bold, link) = ("<span style=\"font-weight:bold;\">bo</span>  \n", "<a rel=\"nofollow noreferrer\" href=\"http://x\" style=\"color:inherit;\">l</a>");
+    assert_eq!(screen.lines_html(Rows::Shown, Styling::Light), "z\n");
+    assert_eq!(screen.lines_html(Rows::Left, Styling::Light), format!("{bold}{link}&lt;xy\n"));
+    assert_eq!(screen.lines_html(Rows::All, Styling::Dark), format!("{bold}{link}&lt;xyz\n"));
+    assert_eq!(screen.lines_html(Rows::Left, Styling::Classes).matches("class=").count(), 2);
+}
+
 #[test]
 fn a_clone_goes_on_by_itself() {
     let mut screen = Screen::with_history(10, 3, 2).unwrap();
@@ -302,6 +316,15 @@ fn shown_logs() {
     assert_eq!(screen::shown("a\u{202e}".as_bytes(), Form::Safe).unwrap(), "a<U+202E>\n");
     let html = "<span class=\"ansi-bold\">&lt;</span>\n";
     assert_eq!(screen::shown(b"\x1b[1m<", Form::Html(Styling::Classes)).unwrap(), html);
+    let log = b"a\x1b[8mb\x1b[28mc\rhttp://a";
+    let text = How { no_hidden: true, no_screen: true, ..How::default() };
+    assert_eq!(screen::shown(log, text).unwrap(), "ac\rhttp://a");
+    assert_eq!(screen::shown(log, How { no_screen: false, ..text }).unwrap(), "http://a\n");
+    let html = How::from(Form::Html(Styling::Classes));
+    let address = "<a rel=\"nofollow noreferrer\" href=\"http://a\" class=\"ansi-link\">http://a</a>\n";
+    assert_eq!(screen::shown(log, How { urls: true, ..html }).unwrap(), address);
+    let numbered = "<span id=\"L1\"><a href=\"#L1\" data-line=\"1\"></a>http://a\n</span>";
+    assert_eq!(screen::shown(log, How { lines: true, ..html }).unwrap(), numbered);
     let mut small = ShownLog::with_size(Form::Text, 2, 1).unwrap();
     small.feed(b"abc").unwrap();
     assert_eq!(small.end().unwrap(), "abc\n");

@@ -33,7 +33,7 @@ __version__ = "0.1.0"
 __all__ = ["STYLINGS", "html_of", "page", "safe", "strip", "stylesheet", "text_of", "to_html"]
 __all__ += ["events", "Csi", "Esc", "Event", "Events", "Execute", "Hook", "Osc", "Put", "Text", "Unhook"]
 _OF_SCREEN = ["Cell", "Change", "Color", "Cursor", "History", "Margins", "Modes", "Place", "Screen", "Style", "color_rgb"]
-_LATER = {**dict.fromkeys(_OF_SCREEN, ".screen"), "shown": ".shown", "shown_of": ".shown"}
+_LATER = {**dict.fromkeys(_OF_SCREEN, ".screen"), "shown": ".log", "shown_of": ".log"}
 __all__ += _LATER
 
 

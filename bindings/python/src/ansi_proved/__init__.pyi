@@ -20,44 +20,94 @@ __version__: str
 STYLINGS: Dict[_Styling, int]
 
 @overload
-def strip(text: str, *, safe: bool = False, lf: bool = False) -> str: ...
+def strip(text: str, *, safe: bool = False, lf: bool = False, no_hidden: bool = False) -> str: ...
 @overload
-def strip(text: _Bytes, *, safe: bool = False, lf: bool = False) -> bytes: ...
+def strip(text: _Bytes, *, safe: bool = False, lf: bool = False, no_hidden: bool = False) -> bytes: ...
 @overload
 def safe(text: str) -> str: ...
 @overload
 def safe(text: _Bytes) -> bytes: ...
 @overload
-def shown(text: str, columns: Optional[int] = None, rows: Optional[int] = None, *, safe: bool = False) -> str: ...
+def shown(
+    text: str, columns: Optional[int] = None, rows: Optional[int] = None, *, safe: bool = False, no_hidden: bool = False
+) -> str: ...
 @overload
-def shown(text: _Bytes, columns: Optional[int] = None, rows: Optional[int] = None, *, safe: bool = False) -> bytes: ...
+def shown(
+    text: _Bytes, columns: Optional[int] = None, rows: Optional[int] = None, *, safe: bool = False, no_hidden: bool = False
+) -> bytes: ...
 @overload
 def shown_of(
-    stream: Union[Iterable[str], _File[str]], columns: Optional[int] = None, rows: Optional[int] = None, *, safe: bool = False
+    stream: Union[Iterable[str], _File[str]],
+    columns: Optional[int] = None,
+    rows: Optional[int] = None,
+    *,
+    safe: bool = False,
+    no_hidden: bool = False,
 ) -> str: ...
 @overload
 def shown_of(
-    stream: Union[Iterable[_Bytes], _File[bytes]], columns: Optional[int] = None, rows: Optional[int] = None, *, safe: bool = False
+    stream: Union[Iterable[_Bytes], _File[bytes]],
+    columns: Optional[int] = None,
+    rows: Optional[int] = None,
+    *,
+    safe: bool = False,
+    no_hidden: bool = False,
 ) -> bytes: ...
 @overload
 def text_of(stream: Union[Iterable[str], _File[str]], *, safe: bool = False, lf: bool = False) -> Iterator[str]: ...
 @overload
 def text_of(stream: Union[Iterable[_Bytes], _File[bytes]], *, safe: bool = False, lf: bool = False) -> Iterator[bytes]: ...
 @overload
-def to_html(text: str, styling: _Styling = "both", *, shown: _Shown = False) -> str: ...
+def to_html(
+    text: str,
+    styling: _Styling = "both",
+    *,
+    shown: _Shown = False,
+    lines: bool = False,
+    urls: bool = False,
+    no_hidden: bool = False,
+) -> str: ...
 @overload
-def to_html(text: _Bytes, styling: _Styling = "both", *, shown: _Shown = False) -> bytes: ...
+def to_html(
+    text: _Bytes,
+    styling: _Styling = "both",
+    *,
+    shown: _Shown = False,
+    lines: bool = False,
+    urls: bool = False,
+    no_hidden: bool = False,
+) -> bytes: ...
 @overload
 def html_of(stream: Union[Iterable[str], _File[str]], styling: _Styling = "both") -> Iterator[str]: ...
 @overload
 def html_of(stream: Union[Iterable[_Bytes], _File[bytes]], styling: _Styling = "both") -> Iterator[bytes]: ...
 @overload
 def page(
-    text: str, styling: _Styling = "both", *, title: str = "Terminal output", lang: str = "en", shown: _Shown = False
+    text: str,
+    styling: _Styling = "both",
+    *,
+    title: str = "Terminal output",
+    lang: str = "en",
+    css: Optional[str] = None,
+    scroll: bool = False,
+    shown: _Shown = False,
+    lines: bool = False,
+    urls: bool = False,
+    no_hidden: bool = False,
 ) -> str: ...
 @overload
 def page(
-    text: _Bytes, styling: _Styling = "both", *, title: str = "Terminal output", lang: str = "en", shown: _Shown = False
+    text: _Bytes,
+    styling: _Styling = "both",
+    *,
+    title: str = "Terminal output",
+    lang: str = "en",
+    css: Optional[str] = None,
+    scroll: bool = False,
+    shown: _Shown = False,
+    lines: bool = False,
+    urls: bool = False,
+    no_hidden: bool = False,
 ) -> bytes: ...
 def stylesheet(scheme: Literal["both", "light", "dark"] = "both") -> str: ...
 

@@ -64,15 +64,16 @@ def html_of(stream, styling="both"):
     return Shared(parts_of(_made(Converter, number_of(styling)), pieces_of(stream)))
 
 
-def to_html(text, styling=BOTH, *, shown=False):
-    """The HTML of terminal output: a fragment for a `<pre>`, right after a newline there.
+def to_html(text, styling=BOTH, *, shown=False, lines=False, urls=False, no_hidden=False):
+    """The HTML of terminal output: a fragment for a `<pre>`, right after a newline there, as `ansi2html --fragment` writes it.
 
-    shown: True for what a screen showed of it, as `shown` has it; or the size of that screen, (80, 24). Of a str it is a str, of
-    bytes, a bytearray or a memoryview bytes."""
-    if shown is not False:
-        from .shown import shown_html  # (the library of the screen is loaded where it is wanted)
+    shown: True for what a screen showed of it, as `shown` has it; or the size of that screen, (80, 24). lines: each line in an element
+    with its number, to link to, which `stylesheet` has rules for. urls: addresses in the text are links too. no_hidden: without the
+    text that it hides (SGR 8), as Jenkins writes notes. Of a str it is a str, of bytes, a bytearray or a memoryview bytes."""
+    if shown is not False or lines or urls or no_hidden:
+        from .log import html_by  # (the library of the screen is loaded where it is wanted)
 
-        return shown_html(text, styling, shown)
+        return html_by(text, styling, shown, lines=lines, urls=urls, no_hidden=no_hidden)
     if styling is BOTH:
         short, number = OF_BOTH(text), 0  # (sooner than to look for it)
     else:

@@ -17,6 +17,9 @@ LOOKS = {
     "light": "color-scheme: light; color: #000000; background-color: #ffffff;",
     "dark": "color-scheme: dark; color: #ffffff; background-color: #121212;",
 }
+# how long lines are drawn, and, where they are not wrapped, in its place
+WRAPS = "pre { white-space: pre-wrap; overflow-wrap: anywhere; }", "display: block; content-visibility"
+SCROLLS = "pre { white-space: pre; }", "display: block; width: max-content; min-width: 100%; content-visibility"
 SCHEMES = "both", "light", "dark"
 TAG = re.compile("[A-Za-z0-9-]{1,64}")
 ESCAPED = str.maketrans({"&": "&amp;", "<": "&lt;", ">": "&gt;", '"': "&quot;", "'": "&#39;", "\r": "&#13;"})
@@ -29,14 +32,33 @@ def _file(name):
         return file.read()
 
 
-def _frame(styling):
-    """What a page has before its language, from there to its title, from there to its text, and after it."""
-    before, rest = _file("page.html").replace(LOOK, LOOKS.get(styling, LOOK)).split(LANGUAGE)
+def _rules(styling, lines, scroll):
+    """The rules of a page, between its `<style>` and `</style>`, as the file beside this one has them."""
+    rules = _file("page.html").split("<style>\n")[1].split("</style>\n")[0].replace(LOOK, LOOKS.get(styling, LOOK))
+    if scroll:
+        for wraps, scrolls in zip(WRAPS, SCROLLS):
+            rules = rules.replace(wraps, scrolls)
+    classes, of_lines = stylesheet(styling if styling in SCHEMES else "both").split(".ansi-wrap {")[0].split("pre [", 1)
+    more = classes * (styling == "classes") + ("pre [" + of_lines) * lines
+    return rules.replace("pre {", more + "pre {", 1)
+
+
+def _looks(styling, lines, scroll, css):
+    """How a page looks: by rules of its own, or by the stylesheet at an address."""
+    if css is None:
+        return "<style>\n%s</style>\n" % _rules(styling, lines, scroll)
+    scheme = LOOKS.get(styling, LOOK).split(";")[0].split(": ")[1]
+    return '<meta name="color-scheme" content="%s">\n<link rel="stylesheet" href="%s">\n' % (scheme, css.translate(ESCAPED))
+
+
+def _frame(lang, title, looks, wraps_by_class):
+    """What a page has before its text, and after it."""
+    before, rest = _file("page.html").split(LANGUAGE)
     named, rest = rest.split(TITLE)
-    looks, tail = rest.split("<pre>\n")
-    if styling == "classes":  # (without the rules of lines)
-        looks = looks.replace("pre {", stylesheet().split("pre [")[0] + "pre {")
-    return before, named, looks + "<pre>\n", tail
+    closed, rest = rest.split("<style>\n")
+    head, tail = rest.split("</style>\n")[1].split("<pre>\n")
+    pre = '<pre class="ansi-wrap">\n' if wraps_by_class else "<pre>\n"
+    return "".join([before, lang, named, title.translate(ESCAPED), closed, looks, head, pre]), tail
 
 
 def _named(value, what):
@@ -46,7 +68,9 @@ def _named(value, what):
     return exact(value)
 
 
-def page(text, styling="both", *, title="Terminal output", lang="en", shown=False):
+def page(
+    text, styling="both", *, title="Terminal output", lang="en", css=None, scroll=False, shown=False, lines=False, urls=False, no_hidden=False
+):  # fmt: skip
     """A whole page of terminal output, in UTF-8: what `to_html` gives, in the page that ansi2html writes around it.
 
         with open("log", "rb") as log, open("log.html", "wb") as page:
@@ -55,15 +79,19 @@ def page(text, styling="both", *, title="Terminal output", lang="en", shown=Fals
     (ansi2html also puts each 500 lines into an element of their own, by which a browser opens a long log at once.)
 
     styling: as of `to_html`: "both" is light or dark as its reader has it; by "classes" the rules are in the page's head. lang: the
-    tag of its language: letters, digits and hyphens, 64 at most. shown: as of `to_html`. Of a str it is a str, of bytes, a bytearray or a memoryview bytes.
+    tag of its language: letters, digits and hyphens, 64 at most. css: the address of a stylesheet, in place of rules of its own, as
+    `stylesheet` has them. scroll: long lines are not wrapped: the page scrolls. shown, lines, urls, no_hidden: as of `to_html`. Of a
+    str it is a str, of bytes, a bytearray or a memoryview bytes.
     """
     number_of(styling)
     title, lang = _named(title, "a title"), _named(lang, "a language")
     if not TAG.fullmatch(lang):
         raise ValueError("a language is a tag of letters, digits and hyphens, 64 at most, and not %r" % lang)
-    before, named, looks, tail = _frame(exact(styling))
-    head = "".join([before, lang, named, title.translate(ESCAPED), looks])
-    html = to_html(text, styling, shown=shown)
+    if css is not None:
+        css = _named(css, "the address of a stylesheet")
+    looks = _looks(exact(styling), bool(lines), scroll, css)
+    head, tail = _frame(lang, title, looks, css is not None and not scroll)
+    html = to_html(text, styling, shown=shown, lines=lines, urls=urls, no_hidden=no_hidden)
     if isinstance(html, str):
         return head + html + tail
     return head.encode() + html + tail.encode()

@@ -123,12 +123,11 @@ class Handle(ctypes.Structure):
 
 
 SIZE = ctypes.sizeof(CellBytes)
-PART, EMPTY = CellBytes.part.offset, b"\0"  # where a cell says how much of a character it has, and that it has none
-GOES_ON = CellBytes.goes_on.offset - SIZE  # where the last cell of a row says so, from its end
 BLANK = bytes(CellBytes(character=0x20))  # a cell of a new screen
 _LEAST_ROOM = 8192  # bytes of room that are tried first
 _WIDTHS = [1, 1, 2, 0]  # of a part: empty, whole, left, right
 _SIZE, _AT = ctypes.c_size_t, ctypes.c_void_p
+_SHOWN, _LEFT, _ALL = range(3)  # rows of a screen, by the number that a call takes: those that show, those that left, and both
 _COUNTS = [1, 1, 1, 3]  # the numbers that count of a kind, but for the default, which has none
 
 
@@ -152,6 +151,8 @@ _draw, _update = _call("ansi_screen_draw", *_WRITES), _call("ansi_screen_update"
 _link, _html = _call("ansi_screen_link", ctypes.c_uint32, *_WRITES), _call("ansi_screen_html", ctypes.c_ubyte, *_WRITES)
 _history, _history_row = _call("ansi_screen_history", _AT, _AT), _call("ansi_screen_history_row", _SIZE, _AT, _SIZE)
 _history_text = _call("ansi_screen_history_text", _SIZE, *_WRITES)
+_lines = _call("ansi_screen_lines", ctypes.c_ubyte, *_WRITES)
+_lines_html = _call("ansi_screen_lines_html", ctypes.c_ubyte, ctypes.c_ubyte, *_WRITES)
 _feed_keeping = _call("ansi_screen_feed_keeping", _AT, _SIZE, _SIZE, _AT)
 _asked, _title = _call("ansi_screen_asked", _AT), _call("ansi_screen_title", *_WRITES)
 _answers, _colors = _call("ansi_screen_answers", *_WRITES, _AT), _call("ansi_screen_colors", _AT)
@@ -199,11 +200,6 @@ def _parts(columns):
 def cells_of(row):
     """The cells of a row, of its bytes."""
     return list(map(_KEPT.__getitem__, _parts(len(row) // SIZE).unpack(row)))
-
-
-def count_printed(row):
-    """How many cells a row has up to the last in which something was printed, of its bytes."""
-    return len(row[PART::SIZE].rstrip(EMPTY))
 
 
 def _number(value, what):
@@ -352,10 +348,20 @@ class History(Sequence):
         """The text of each row, with the blanks at its end."""
         return ["".join(cell.text for cell in row) for row in self[:]]
 
-    def text(self):
-        """The text of all rows: each without the blanks at its end, and a newline."""
+    def text(self, joined=False):
+        """The text of all rows: each without the blanks at its end, and a newline.
+
+        joined: rows from which autowrap went on are one line with the next ones, as `Screen.text` has them.
+        """
+        if joined:
+            return self._screen._text_by(_lines, _LEFT)
         with self._screen._lock:
             return "".join(self.row_text(number) + "\n" for number in range(len(self)))
+
+    def to_html(self, styling="both"):
+        """The rows as HTML, as `Screen.to_html` has what shows; joined. The last 1,024 links of the screen are kept for them, and after RIS
+        a row that left before it can have a later link of the same number."""
+        return self._screen._text_by(_lines_html, _LEFT, number_of(styling))
 
     def __repr__(self):
         return "<History of %d rows, of %d that left>" % self._screen._counts()
@@ -502,27 +508,16 @@ class Screen:
         with self._lock:
             return [self._text_by(_part_text, row, 0, self._columns) for row in range(self._rows)]
 
-    def text(self, joined=False):
+    def text(self, joined=False, history=False):
         """The text of the screen: each row without the blanks at its end, and a newline, without the blank rows at the end.
 
-        joined: rows from which autowrap went on are one line with the next ones.
+        joined: rows from which autowrap went on are one line with the next ones, and of each what was printed stays, blanks too, as in
+        the lines of `ansi2text --shown`. history: the same, and before it the rows that left and are kept; and where the alternate screen
+        shows, between them those of the main one.
         """
-        if not joined:
-            return self._text_by(_text)
-        with self._lock:
-            lines = [self._line(row) for row in range(self._rows)]
-        while lines and not lines[-1].strip(" \n"):
-            lines.pop()
-        whole = "".join(lines)
-        return whole if not whole or whole.endswith("\n") else whole + "\n"
-
-    def _line(self, row):
-        """The text of a row, and a newline; of one that goes on, up to what was printed last: a wide character that has no room in the
-        last column leaves it blank."""
-        cells = self._row_by(_row, row)
-        if cells[GOES_ON]:
-            return self.part_text(row, 0, count_printed(cells))
-        return self.row_text(row) + "\n"
+        if joined or history:
+            return self._text_by(_lines, _ALL if history else _SHOWN)
+        return self._text_by(_text)
 
     def cell(self, row, column):
         """The cell of a row and a column, counted from 0."""
@@ -723,9 +718,11 @@ class Screen:
             raise ValueError("a link has a number below 2**32, and not %d" % number)
         return self._text_by(_link, number)
 
-    def to_html(self, styling="both"):
-        """What it shows as HTML, to paste after <pre> and a newline: of the stylings that STYLINGS names."""
-        return self._text_by(_html, number_of(styling))
+    def to_html(self, styling="both", history=False):
+        """What it shows as HTML, to paste after <pre> and a newline: of the stylings that STYLINGS names. history: the rows that left and are
+        kept come before, as `text` has them."""
+        number = number_of(styling)
+        return self._text_by(_lines_html, _ALL, number) if history else self._text_by(_html, number)
 
     def draw(self):
         """The bytes after which any terminal of its size shows this screen: all but links and which rows go on."""

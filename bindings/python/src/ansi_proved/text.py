@@ -122,7 +122,27 @@ def is_clean(text):
     return 2 * len(begin) > 3 * min(len(text), 4096) and CLEAN.match(text).end() == len(text)
 
 
-def strip(text, *, safe=False, lf=False):
+class Stripped:
+    """A text that is stripped already."""
+
+    def texts(self, piece):
+        yield piece
+
+    def ends(self):
+        return iter(())
+
+
+def _unhidden(text, safe, lf):
+    """The text without what is hidden; where it is not safe text, without carriage returns before line feeds, or with them."""
+    from .log import unhidden  # (the library of the screen is loaded where it is wanted)
+
+    found = unhidden(text, safe=safe)
+    if safe or not lf:
+        return found
+    return whole_text(Lines(Stripped()), found.encode() if isinstance(found, str) else found, isinstance(found, str))
+
+
+def strip(text, *, safe=False, lf=False, no_hidden=False):
     """The text of terminal output: of a str a str, of bytes, a bytearray or a memoryview bytes.
 
     It drives no terminal: DEL and U+0080 to U+009F, which some terminals take for controls, are left out too. No other
@@ -130,8 +150,11 @@ def strip(text, *, safe=False, lf=False):
     to be safe, it hides nothing, as that of `ansi2text --safe`: what shows nothing, turns the order of text round or is a
     control is written visibly, as `<U+202E>`, and text that a stream hides (SGR 8), or that has the colour of its ground in
     xterm's palette, stands between `<U+hidden>` and `<U+shown>`. With `lf` each carriage return right before a line feed goes, as a recording by script(1) has it at the end
-    of each line; where it is to be safe it goes in any case.
+    of each line; where it is to be safe it goes in any case. With `no_hidden` text that the stream hides (SGR 8) is left out, as
+    Jenkins writes notes.
     """
+    if no_hidden:
+        return _unhidden(text, safe, lf)
     if safe:
         return safe_text(text)
     short = None if lf else SHORT(text)

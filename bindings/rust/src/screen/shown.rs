@@ -1,4 +1,4 @@
-//! What a screen showed of a log.
+//! What a screen showed of a log, or the log itself.
 
 use crate::Styling;
 use alloc::string::String;
@@ -21,7 +21,11 @@ struct Options {
     rows: usize,
     form: u8,
     styling: u8,
-    reserved: [u8; 6],
+    lines: u8,
+    urls: u8,
+    no_hidden: u8,
+    no_screen: u8,
+    reserved: [u8; 2],
 }
 
 unsafe extern "C" {
@@ -41,7 +45,7 @@ unsafe extern "C" {
     ) -> bool;
 }
 
-/// The form in which is written what a screen showed.
+/// The form in which a log is written, or what a screen showed of it.
 #[derive(Clone, Copy, Debug, Default, PartialEq, Eq, Hash)]
 pub enum Form {
     /// Text, as `ansi2text --shown` writes it.
@@ -51,6 +55,42 @@ pub enum Form {
     Safe,
     /// HTML, as `ansi2html --fragment --shown`.
     Html(Styling),
+}
+
+/// How a log is written: a form, and what more is asked for.
+///
+/// ```
+/// use ansi_proved::screen::{Form, How, ShownLog};
+/// use ansi_proved::Styling;
+///
+/// let how = How { urls: true, no_screen: true, ..Form::Html(Styling::Classes).into() };
+/// let mut log = ShownLog::new(how)?;
+/// log.feed(b"http://a")?;
+/// assert!(log.end()?.contains("href=\"http://a\""));
+/// # Ok::<(), ansi_proved::screen::CannotShow>(())
+/// ```
+#[derive(Clone, Copy, Debug, Default, PartialEq, Eq, Hash)]
+#[allow(clippy::struct_excessive_bools)] // (they are the programs' options)
+pub struct How {
+    /// The form.
+    pub form: Form,
+    /// Of HTML: each line in an element with its number, to link to, as by `--lines`.
+    pub lines: bool,
+    /// Of HTML: addresses in the text are links too, as by `--urls`.
+    pub urls: bool,
+    /// Text that SGR 8 hides is left out, as by `--no-hidden`.
+    pub no_hidden: bool,
+    /// No screen shows the log: it is written as it is, as without `--shown`.
+    pub no_screen: bool,
+}
+
+impl From<Form> for How {
+    fn from(form: Form) -> How {
+        How {
+            form,
+            ..How::default()
+        }
+    }
 }
 
 /// No screen has that size, or there is no memory for a log, or for what is written of it.
@@ -88,23 +128,27 @@ impl ShownLog {
     ///
     /// # Errors
     /// There is no memory.
-    pub fn new(form: Form) -> Result<ShownLog, CannotShow> {
-        ShownLog::opened(form, 0, 0)
+    pub fn new(how: impl Into<How>) -> Result<ShownLog, CannotShow> {
+        ShownLog::opened(how.into(), 0, 0)
     }
 
     /// One whose screen has so many columns (2 to 1000) and rows (1 to 1000).
     ///
     /// # Errors
     /// There is no screen of another size, or no memory.
-    pub fn with_size(form: Form, columns: usize, rows: usize) -> Result<ShownLog, CannotShow> {
+    pub fn with_size(
+        how: impl Into<How>,
+        columns: usize,
+        rows: usize,
+    ) -> Result<ShownLog, CannotShow> {
         if columns == 0 && rows == 0 {
             return Err(CannotShow); // (which is the size of the log to the library)
         }
-        ShownLog::opened(form, columns, rows)
+        ShownLog::opened(how.into(), columns, rows)
     }
 
-    fn opened(form: Form, columns: usize, rows: usize) -> Result<ShownLog, CannotShow> {
-        let (form, styling) = match form {
+    fn opened(how: How, columns: usize, rows: usize) -> Result<ShownLog, CannotShow> {
+        let (form, styling) = match how.form {
             Form::Text => (0, 0),
             Form::Safe => (1, 0),
             Form::Html(styling) => (2, styling as u8),
@@ -114,7 +158,11 @@ impl ShownLog {
             rows,
             form,
             styling,
-            reserved: [0; 6],
+            lines: how.lines.into(),
+            urls: how.urls.into(),
+            no_hidden: how.no_hidden.into(),
+            no_screen: how.no_screen.into(),
+            reserved: [0; 2],
         };
         let held = ptr::null_mut();
         let mut log = ShownLog {
@@ -181,8 +229,8 @@ impl fmt::Debug for ShownLog {
 ///
 /// # Errors
 /// There is no memory.
-pub fn shown(log: &[u8], form: Form) -> Result<String, CannotShow> {
-    let mut shown = ShownLog::new(form)?;
+pub fn shown(log: &[u8], how: impl Into<How>) -> Result<String, CannotShow> {
+    let mut shown = ShownLog::new(how)?;
     for piece in log.chunks(PIECE) {
         shown.feed(piece)?;
     }

@@ -1,4 +1,5 @@
-"""What a screen showed of a log."""
+"""What a screen showed of a log, and logs that are written with more than text or HTML alone: without hidden text, in lines, with
+addresses as links."""
 
 import ctypes
 
@@ -13,9 +14,10 @@ _AT, _BOOL, _SIZE = ctypes.c_void_p, ctypes.c_bool, ctypes.c_size_t
 
 
 class Options(ctypes.Structure):
-    """How is written what a screen showed, and by which screen: of 0 columns and 0 rows, that of the recording."""
+    """How a log is written, and by which screen: of 0 columns and 0 rows, that of the recording."""
 
-    _fields_ = [("columns", _SIZE), ("rows", _SIZE), ("form", ctypes.c_ubyte), ("styling", ctypes.c_ubyte), ("reserved", ctypes.c_ubyte * 6)]
+    _fields_ = [("columns", _SIZE), ("rows", _SIZE), ("form", ctypes.c_ubyte), ("styling", ctypes.c_ubyte)]
+    _fields_ += [(name, ctypes.c_ubyte) for name in ("lines", "urls", "no_hidden", "no_screen")] + [("reserved", ctypes.c_ubyte * 2)]
 
 
 def _call(name, answer, *kinds):
@@ -60,13 +62,13 @@ class Log:
         _close(self._at)
 
 
-def options_of(columns, rows, form, styling=0):
+def options_of(columns, rows, form, styling=0, **more):
     """The options for a screen of this size; where neither number is given, of that of the recording."""
     if columns is None and rows is None:
         columns = rows = 0
     else:
         check_size(columns, rows)
-    return Options(columns, rows, form, styling)
+    return Options(columns, rows, form, styling, **{name: 1 for name, is_asked in more.items() if is_asked})
 
 
 def _whole(text, options):
@@ -77,23 +79,24 @@ def _whole(text, options):
     return found.decode() if is_str else found
 
 
-def shown(text, columns=None, rows=None, *, safe=False):
+def shown(text, columns=None, rows=None, *, safe=False, no_hidden=False):
     r"""The text that a screen shows of a log, as `ansi2text --shown` writes it: what scrolled off at its top, or was erased with
     all of it, and what still stands there at the end.
 
         ansi_proved.shown(" 10%\r 50%\r100%\n")  # '100%\n'
 
     columns, rows: its size; with neither that which the first line of the log says, as script(1) writes it, and where it says none,
-    1,000 columns and 100 rows. safe: text that hides nothing, as `safe` has it. A row that wrapped and the next one are one line.
-    What is written over is lost, and so is what the alternate screen showed, unless it still shows at the end: then the main screen
-    comes first. Of a str it is a str, of bytes, a bytearray or a memoryview bytes.
+    1,000 columns and 100 rows. safe: text that hides nothing, as `safe` has it. no_hidden: without the text that the log hides
+    (SGR 8). A row that wrapped and the next one are one line. What is written over is lost, and so is what the alternate screen
+    showed, unless it still shows at the end: then the main screen comes first. Of a str it is a str, of bytes, a bytearray or a
+    memoryview bytes.
     """
-    return _whole(text, options_of(columns, rows, SAFE if safe else TEXT))
+    return _whole(text, options_of(columns, rows, SAFE if safe else TEXT, no_hidden=no_hidden))
 
 
-def shown_of(stream, columns=None, rows=None, *, safe=False):
+def shown_of(stream, columns=None, rows=None, *, safe=False, no_hidden=False):
     """The same of a log that comes in pieces, as a list or a file: what pieces are, `text_of` says."""
-    return _joined(stream, options_of(columns, rows, SAFE if safe else TEXT))
+    return _joined(stream, options_of(columns, rows, SAFE if safe else TEXT, no_hidden=no_hidden))
 
 
 def _joined(stream, options):
@@ -106,8 +109,13 @@ def _joined(stream, options):
     return found.decode() if is_str else found
 
 
-def shown_html(text, styling, size):
-    """The HTML that `ansi2html --fragment --shown` writes of a log: by a screen of this size, or of that of the recording, where it
-    is True."""
-    columns, rows = (None, None) if size is True else size
-    return _whole(text, options_of(columns, rows, HTML, number_of(styling)))
+def unhidden(text, *, safe=False):
+    """The text of a log without what it hides, as `ansi2text --no-hidden` writes it; no screen shows it."""
+    return _whole(text, options_of(None, None, SAFE if safe else TEXT, no_hidden=True, no_screen=True))
+
+
+def html_by(text, styling, size, **more):
+    """The HTML that `ansi2html --fragment` writes of a log, in lines, with addresses as links, without hidden text; where size is not
+    False, of what a screen showed: of this size, or of that of the recording, where it is True."""
+    columns, rows = (None, None) if isinstance(size, bool) else size
+    return _whole(text, options_of(columns, rows, HTML, number_of(styling), no_screen=size is False, **more))

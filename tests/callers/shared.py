@@ -49,6 +49,8 @@ def text_of_cells(rows):
 READS = {
     "text": lambda screen, other: screen.text(),
     "text, joined": lambda screen, other: screen.text(joined=True),
+    "text, with what left": lambda screen, other: screen.text(history=True),
+    "HTML of what left": lambda screen, other: screen.history.to_html(),
     "str": lambda screen, other: str(screen),
     "display": lambda screen, other: "".join(screen.display),
     "row_text": lambda screen, other: screen.row_text(0),

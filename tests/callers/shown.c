@@ -84,6 +84,35 @@ static void forms(void) {
     ansi_shown_close(&shown);
 }
 
+/* (by hand: what an option adds; with all of them of a screen, and of the log itself) */
+static void options_tried(void) {
+    static const struct {
+        ansi_shown_options options;
+        const char *wanted;
+    } rows[] = {
+        {{.form = ANSI_SHOWN_TEXT, .no_hidden = 1}, "http://a\n"},
+        {{.form = ANSI_SHOWN_SAFE, .no_hidden = 255}, "http://a\n"},
+        {{.form = ANSI_SHOWN_TEXT, .no_screen = 1}, "abc\rhttp://a"},
+        {{.form = ANSI_SHOWN_TEXT, .no_screen = 1, .no_hidden = 1}, "ac\rhttp://a"},
+        {{.form = ANSI_SHOWN_TEXT, .no_screen = 1, .columns = 1}, "abc\rhttp://a"},
+        {{.form = ANSI_SHOWN_SAFE, .no_screen = 1, .no_hidden = 1}, "ac<U+000D>http://a"},
+        {{.form = ANSI_SHOWN_HTML, .urls = 2}, "<a rel=\"nofollow noreferrer\" href=\"http://a\" style=\"color:inherit;\">http://a</a>\n"},
+        {{.form = ANSI_SHOWN_HTML, .lines = 1}, "<span id=\"L1\"><a href=\"#L1\" data-line=\"1\"></a>http://a\n</span>"},
+        {{.form = ANSI_SHOWN_HTML, .no_hidden = 1}, "http://a\n"},
+        {{.form = ANSI_SHOWN_HTML, .styling = 3, .no_screen = 1, .no_hidden = 1}, "ac&#13;<br>http://a"},
+    };
+    ansi_shown shown = {0};
+
+    for (size_t at = 0; at < sizeof rows / sizeof rows[0]; at++) {
+        const char *log = "a\x1b[8mb\x1b[28mc\rhttp://a";
+        want(ansi_shown_open(&shown, &rows[at].options) && fed(&shown, log, strlen(log)) && ansi_shown_end(&shown), "an option is taken");
+        if (!has_text(&shown, rows[at].wanted))
+            printf("row %zu: ", at);
+        want(has_text(&shown, rows[at].wanted), "and does what it says");
+    }
+    ansi_shown_close(&shown);
+}
+
 static void refused(void) {
     static const size_t sizes[][2] = {{0, 1}, {1, 0}, {1, 1}, {2, 0}, {1001, 24}, {80, 1001}, {(size_t)-1, 24}, {0, 24}, {80, 0}};
     ansi_shown shown = {0};
@@ -107,9 +136,9 @@ static void refused(void) {
 }
 
 /* It answers whether no allocation failed. */
-static bool ran(uint8_t form) {
+static bool ran(uint8_t form, uint8_t more) {
     ansi_shown shown = {0};
-    ansi_shown_options options = {.form = form};
+    ansi_shown_options options = {.form = form, .lines = more & 1, .urls = more & 2, .no_hidden = more & 4, .no_screen = more & 8};
     bool is_open = ansi_shown_open(&shown, &options);
     bool went_well = is_open && fed(&shown, LOG, 60) && fed(&shown, &LOG[60], strlen(LOG) - 60) && ansi_shown_end(&shown);
 
@@ -118,25 +147,26 @@ static bool ran(uint8_t form) {
         want(!fed(&shown, LOG, 1) && !ansi_shown_end(&shown), "where memory was wanting, no more is taken");
         want(has_text(&shown, ""), "and nothing is written");
     }
-    if (went_well && form == ANSI_SHOWN_TEXT)
+    if (went_well && form == ANSI_SHOWN_TEXT && more < 4)
         want(has_text(&shown, TEXT), "what goes well is whole");
     ansi_shown_close(&shown);
     return went_well;
 }
 
 static void without_memory(void) {
-    for (int form = 0; form < 3; form++) {
+    for (int kind = 0; kind < 3 * 16; kind++) {
         long count = 0;
         do
             left = count++;
-        while (count < 1000 && !ran((uint8_t)form));
-        want(count > 4 && count < 1000, "several allocations can fail");
+        while (count < 1000 && !ran((uint8_t)(kind / 16), kind % 16));
+        want(count > 3 && count < 1000, "several allocations can fail");
     }
 }
 
 int main(void) {
     cuts();
     forms();
+    options_tried();
     refused();
     without_memory();
     return wrong != 0;

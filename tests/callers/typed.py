@@ -29,6 +29,8 @@ data = ansi_proved.to_html(b"a", styling="dark")
 text = ansi_proved.page("a", "light", title="A log", lang="de")
 data = ansi_proved.page(b"a")
 data = ansi_proved.page(b"a", shown=(80, 24))
+text = ansi_proved.strip("a", no_hidden=True) + ansi_proved.to_html("a", lines=True, urls=True, no_hidden=True)
+data = ansi_proved.shown(b"a", no_hidden=True) + ansi_proved.page(b"a", "dark", css="a.css", scroll=True, lines=True, urls=False)
 text = ansi_proved.stylesheet("dark")
 text = ansi_proved.strip(b"a")  # wrong
 data = ansi_proved.strip("a")  # wrong
@@ -50,6 +52,9 @@ ansi_proved.to_html("a", 1)  # wrong
 ansi_proved.page("a", "red")  # wrong
 ansi_proved.page("a", title=b"A log")  # wrong
 ansi_proved.page("a", "both", "A log")  # wrong
+ansi_proved.page("a", css=b"a.css")  # wrong
+ansi_proved.to_html("a", urls="http")  # wrong
+ansi_proved.strip("a", hidden=False)  # wrong
 ansi_proved.stylesheet("classes")  # wrong
 data = ansi_proved.stylesheet()  # wrong
 

@@ -10,8 +10,8 @@ from lib.expected_shown import SHOWN_NARROW_ROWS, SHOWN_ROWS, SHOWN_USUAL_ROWS, 
 from lib.hostile_streams import BLOCK, SIZE, WHOLE, stream, text, times
 from lib.log_rows import BEGUN_ROWS, LINES_CUT, READ_ROWS, RETURN_ROWS
 from lib.modes import ROOM_SHOWN, Mode, Program
-from lib.refusals import PARSELOG_USAGE, not_with_shown, refused_by, unknown, wants, wrong_size
-from lib.safe_rows import HIDDEN_ROWS, LEFT_OUT_ROWS, SAFE_LEFT_OUT_ROWS, SAFE_ROWS, SAFE_SHOWN_ROWS
+from lib.refusals import PARSELOG_USAGE, refused_by, unknown, wants, wrong_size
+from lib.safe_rows import HIDDEN_ROWS, LEFT_OUT_ROWS, SAFE_LEFT_OUT_ROWS, SAFE_ROWS, SAFE_SHOWN_LEFT_OUT_ROWS, SAFE_SHOWN_ROWS, SHOWN_LEFT_OUT_ROWS
 from lib.shown_further import FURTHER_MODES
 from lib.url_rows import URL_CUT, URL_ROWS, address
 
@@ -649,7 +649,6 @@ PROGRAMS = [
         + [([word], wrong_size(b"ansi2text")) for word in ("--shown=", "--shown=1x1", "--shown=80", "--shown=80x1001", "--shown=80x2X4", "--shown==80x24")]
         + [(["--shown", "--shown=0x0"], wrong_size(b"ansi2text"))]
         + [(["--safe", "--shown=1x1"], wrong_size(b"ansi2text"))]
-        + not_with_shown("ansi2text", "--no-hidden", ["--no-hidden", "--shown"], ["--shown=9x9", "--safe", "--no-hidden"])
         + [(["--shown", *words], wrong_size(b"ansi2text")) for words in (["1x1"], ["80x1001"], ["9x9", "--shown", "0x24"], ["99999999999999999999x1"])],
         [
             Mode([], STRIP_ROWS, (b"\x1b[1mA\n", b"A\n"), STRIP_HOSTILE, stays=True, cut=STRIP_CUT),
@@ -672,6 +671,9 @@ PROGRAMS = [
             Mode(["--shown", "20x6"], SHOWN_NARROW_ROWS, (b"A\b\n", b"A\n"), [], stays=True, waits=True),
             Mode(["--shown=9x9", "--shown", "20X6", "--safe", "--lf"], SHOWN_NARROW_ROWS, (b"A\b\n", b"A\n"), [], stays=True, waits=True),
             Mode(["--shown", "20x6", "--shown", "80x24"], SHOWN_ROWS[-3:], (b"A\b\n", b"A\n"), [], stays=True, waits=True),
+            Mode(["--no-hidden", "--shown"], SHOWN_USUAL_ROWS + SHOWN_LEFT_OUT_ROWS, LEFT_OUT_LINE, shown_hostile(100), stays=True, waits=True, room=ROOM_SHOWN),
+            Mode(["--shown=20x6", "--no-hidden", "--lf"], SHOWN_NARROW_ROWS + SHOWN_LEFT_OUT_ROWS, LEFT_OUT_LINE, [], stays=True, waits=True),
+            Mode(["--no-hidden", "--shown", "80x24", "--safe"], SHOWN_LEFT_OUT_ROWS + SAFE_SHOWN_LEFT_OUT_ROWS, LEFT_OUT_LINE, [], waits=True),
         ],
         options=["--safe", "--lf", "--no-hidden", "--shown", "--shown=COLUMNSxROWS", "--output=FILE"],
         files=[([], []), (["--lf"], ["--lf"]), (["--no-hidden"], ["--no-hidden"]), (["--safe"], ["--safe"]), (["--shown"], ["--shown"])],
@@ -799,12 +801,12 @@ PROGRAMS = [
     # (what its pictures are tests/pictures tries)
     Program(
         "ansi2svg",
-        refused_by("ansi2svg", ["--shown"], ["--window=x"])
+        refused_by("ansi2svg", ["--draw"], ["--window=x"], ["--shown=9x2"])
         + [([*before, it], wants("ansi2svg", it)) for it in ("--size", "--title", "--font") for before in ([], ["a"])]
         + [(["--size", word], wrong_size(b"ansi2svg")) for word in ("--dark", "1x1", "")]
         + [(words, b"ansi2svg: a picture is that of one file (see ansi2svg --help)") for words in (["a", "b"], ["-", "-"], ["a", "--", "-b"])],
         [],
-        options=["--size=COLUMNSxROWS", "--light", "--dark", "--cursor", "--window", "--title=TEXT", "--font=FONTS", "--output=FILE"],
+        options=["--size=COLUMNSxROWS", "--shown", "--light", "--dark", "--cursor", "--window", "--title=TEXT", "--font=FONTS", "--output=FILE"],
         files=[([], [])],
     ),
 ]

@@ -102,7 +102,7 @@ def shown_python():
     """The lines of Python that docs/USING.md, the package's README and what it says of its calls show."""
     yield "README", re.search(r"(?m)^    import ansi_proved\n(?:    .*\n|\n)+", read("bindings/python/README.md"))[0]
     yield "docs/USING.md", re.search(r"(?m)^    import ansi_proved\n(?:    .*\n)+", read("docs/USING.md"))[0]
-    for name in ("text", "event", "shown"):
+    for name in ("text", "event", "log"):
         told = ast.parse(read("bindings/python/src/ansi_proved/%s.py" % name)).body
         for it in told:
             if isinstance(it, ast.FunctionDef) and not it.name.startswith("_"):
@@ -164,22 +164,22 @@ STRS = ["A", "\x1b[1mA", 2000 * "\x1b[1mA"]
 OF_BYTES, OF_STR = [WHOLES, iter(WHOLES), [], io.BytesIO(b"\x1b[1mA")], [STRS, iter(STRS), io.StringIO("\x1b[1mA")]
 MANY_STR, MANY_BYTES = "Union[Iterable[str], _File[str]]", "Union[Iterable[_Bytes], _File[bytes]]"
 TYPES = {  # what type checkers are told that each function takes and gives, with what it is then given
-    ("strip", "str", "bool", "bool", "str"): STRS,
-    ("strip", "_Bytes", "bool", "bool", "bytes"): WHOLES,
+    ("strip", "str", *3 * ["bool"], "str"): STRS,
+    ("strip", "_Bytes", *3 * ["bool"], "bytes"): WHOLES,
     ("safe", "str", "str"): STRS,
     ("safe", "_Bytes", "bytes"): WHOLES,
-    ("shown", "str", "Optional[int]", "Optional[int]", "bool", "str"): STRS,
-    ("shown", "_Bytes", "Optional[int]", "Optional[int]", "bool", "bytes"): WHOLES,
-    ("shown_of", MANY_STR, "Optional[int]", "Optional[int]", "bool", "str"): [STRS, iter(STRS), io.StringIO("\x1b[1mA")],
-    ("shown_of", MANY_BYTES, "Optional[int]", "Optional[int]", "bool", "bytes"): [WHOLES, iter(WHOLES), io.BytesIO(b"\x1b[1mA")],
+    ("shown", "str", "Optional[int]", "Optional[int]", "bool", "bool", "str"): STRS,
+    ("shown", "_Bytes", "Optional[int]", "Optional[int]", "bool", "bool", "bytes"): WHOLES,
+    ("shown_of", MANY_STR, "Optional[int]", "Optional[int]", "bool", "bool", "str"): [STRS, iter(STRS), io.StringIO("\x1b[1mA")],
+    ("shown_of", MANY_BYTES, "Optional[int]", "Optional[int]", "bool", "bool", "bytes"): [WHOLES, iter(WHOLES), io.BytesIO(b"\x1b[1mA")],
     ("text_of", MANY_STR, "bool", "bool", "Iterator[str]"): OF_STR,
     ("text_of", MANY_BYTES, "bool", "bool", "Iterator[bytes]"): OF_BYTES,
-    ("to_html", "str", "_Styling", "_Shown", "str"): STRS,
-    ("to_html", "_Bytes", "_Styling", "_Shown", "bytes"): WHOLES,
+    ("to_html", "str", "_Styling", "_Shown", *3 * ["bool"], "str"): STRS,
+    ("to_html", "_Bytes", "_Styling", "_Shown", *3 * ["bool"], "bytes"): WHOLES,
     ("html_of", MANY_STR, "_Styling", "Iterator[str]"): [STRS, iter(STRS), io.StringIO("\x1b[1mA")],
     ("html_of", MANY_BYTES, "_Styling", "Iterator[bytes]"): [WHOLES, iter(WHOLES), [], io.BytesIO(b"\x1b[1mA")],
-    ("page", "str", "_Styling", "str", "str", "_Shown", "str"): STRS,
-    ("page", "_Bytes", "_Styling", "str", "str", "_Shown", "bytes"): WHOLES,
+    ("page", "str", "_Styling", "str", "str", "Optional[str]", "bool", "_Shown", *3 * ["bool"], "str"): STRS,
+    ("page", "_Bytes", "_Styling", "str", "str", "Optional[str]", "bool", "_Shown", *3 * ["bool"], "bytes"): WHOLES,
     ("stylesheet", "Literal['both', 'light', 'dark']", "str"): ["both", "light", "dark"],
     ("events", "Union[str, _Bytes, Iterable[Union[str, _Bytes]], _File[str], _File[bytes]]", "Iterator[Event]"): [
         *["A\n", *WHOLES, WHOLES, ["A", b"B"], io.BytesIO(b"A"), io.StringIO("A\n")]
@@ -232,6 +232,28 @@ def stub_cases():
         yield "Python: the fields of %s" % name, None if tuple(fields.split()) == found else "they are %s" % (found,)
 
 
+def further_page_cases(ansi, ansi2html, stream):
+    """Pages with each option of ansi2html, beside what that writes: its text without the elements of blocks."""
+    stream += b"\nhttp://a.b\x1b[8mha\x1b[m\r1%\r2%\n"
+    options = [({name: True}, ["--" + name.replace("_", "-")]) for name in ("scroll", "lines", "urls", "no_hidden", "shown")]
+    options += [({"shown": (20, 6)}, ["--shown=20x6"]), ({"css": "a&b'.css"}, ["--css=a&b'.css"])]
+    of_text = ("--lines", "--urls", "--no-hidden", "--shown", "--shown=20x6")
+    pick = random.Random(91)
+    for _ in range(60):
+        chosen = pick.sample(options, pick.randrange(5))
+        styling, asked = pick.choice(list(ansi.STYLINGS)), [word for _, words in chosen for word in words]
+        asked += [] if styling == "both" else ["--" + styling]
+        named = {name: value for words, _ in chosen for name, value in words.items()}
+        if "--shown" in asked and "--shown=20x6" in asked:
+            continue
+        around = run([ansi2html, "--title=t", *(it for it in asked if it not in of_text or it == "--lines")], b"")
+        head, tail = around.stdout.split(b"</pre>")
+        done = run([ansi2html, "--fragment", *(it for it in asked if it in (*of_text, "--light", "--dark", "--classes"))], stream)
+        found = ansi.page(stream, styling, title="t", **named)
+        why = failure(around) or failure(done) or first_difference(found, head + done.stdout + b"</pre>" + tail)
+        yield "Python: a page by %s" % " ".join(asked), why
+
+
 def page_cases(ansi):
     """Pages and stylesheets, beside what ansi2html writes, and the text that a terminal shows beside ansi2text."""
     ansi2html, ansi2text = ("%s/crates/%s/out/%s" % (ROOT, it, it) for it in ("ansi2html", "ansi2text"))
@@ -249,6 +271,7 @@ def page_cases(ansi):
                 found = found if isinstance(text, bytes) else found.encode()
                 why = failure(around) or failure(done) or first_difference(found, head + done.stdout + b"</pre>" + tail)
                 yield "Python: %s, %s%s" % (kind, styling, name), why
+    yield from further_page_cases(ansi, ansi2html, stream)
     for scheme in ("both", "light", "dark"):
         done = run([ansi2html, "--stylesheet", *([] if scheme == "both" else ["--" + scheme])])
         yield "Python: the stylesheet, %s" % scheme, failure(done) or first_difference(ansi.stylesheet(scheme).encode(), done.stdout)

@@ -115,7 +115,7 @@ PHRASES = {
     "man/ansi2svg.1": [
         STATUSES[0], STATUSES[3], "was said. {FAILED} the file", "drawn. {MISUSED} an option", "hidden text sgr {hidden}", "a character that is broken is u+fffd", "--size 80x24",
         "from {MIN_COLUMNS}x{MIN_ROWS} to {MAX_COLUMNS}x{MAX_ROWS}. where", "and else {COLUMNS}x{ROWS}.", 'columns="120" lines="40"', "it keeps the links (osc 8) that",
-        "a cell is 10 units wide and 20 high", "xml may not have is u+fffd", "30 units high", "(svg) 2, in xml 1.0", "2.54 knows no",
+        "a cell is 10 units wide and 20 high", "xml may not have is u+fffd", "30 units high", "(u+2500 to u+259f, but for the shades u+2591 to u+2593)", "of the rows that left the last {MOST_ABOVE} are drawn", "(svg) 2, in xml 1.0", "2.54 knows no",
     ],
     "man/ansi2text.1": [
         *STATUSES, *OF_SHOWN, *CUT_OFF, "all other control characters from 00 to 1f", "del (7f) and the characters " + C1, "is broken becomes u+fffd", "each byte 80 to ff that belongs to no character",
@@ -131,7 +131,7 @@ PHRASES = {
 CONSTANTS = {
     "anstyle_parse/src/parser/command": ["MAX_OSC_RAW", "MAX_OSC_PARTS"], "anstyle_parse/src/params": ["MAX_PARAMS"], "anstyle_parse/src/parser/header": ["MAX_FIELD"],
     "event_pieces/src/event": ["MAX_INTERMEDIATES"], "html_pieces/src/state": ["MAX_LINK"], "html_pieces/src/feeding": ["CAPACITY", "MOST_TAKEN"],
-    "screen_html/src/table": ["MOST_KEPT"], "screen_draw/src/updates": ["PIECE"], "screen_text/src/recording": ["MOST_FRONT"], "ansi2html/src/words": ["MOST_OF_A_TAG"], "ansi_html/src/block": ["LINES_A_BLOCK"],
+    "screen_html/src/table": ["MOST_KEPT"], "screen_svg/src/rows": ["MOST_ABOVE"], "screen_draw/src/updates": ["PIECE"], "screen_text/src/recording": ["MOST_FRONT"], "ansi2html/src/words": ["MOST_OF_A_TAG"], "ansi_html/src/block": ["LINES_A_BLOCK"],
     "command_line/src/lib": ["FAILED", "MISUSED", "READER_GONE"], "ansi_screen/src/size": ["MIN_COLUMNS", "MAX_COLUMNS", "MIN_ROWS", "MAX_ROWS"],
     "screen_pieces/src/cell": ["RESERVED_CELL"], "screen_pieces/src/style": ["RESERVED_STYLE"], "screen_pieces/src/modes": ["RESERVED_MODES"], "screen_pieces/src/parts": ["RESERVED_PLACE"], "ansi_modes/src/text": ["MAX_TEXT"], "ansi_answers/src/waiting": ["MAX_WAITING"], "ansi_screen_c/src/history": ["RESERVED_OPTIONS"], "ansi_html/src/spare": ["BYTE_EARNS", "FEED_COUNTS"],
 }  # fmt: skip

@@ -37,3 +37,26 @@ def rows_of(data):
         above = unfiltered(plain[start], bytearray(plain[start + 1 : start + 1 + width * size]), above, size)
         rows.append(list(zip(above[0::size], above[1::size], above[2::size])))
     return rows
+
+
+def of_window(dump):
+    """The rows of a picture that xwd wrote of a window of 24 bits, likewise."""
+    fields = struct.unpack(">25I", dump[:100])
+    width, height, bits, per_line, colours = (fields[at] for at in (4, 5, 11, 12, 19))
+    assert bits == 32, "a window of %d bits" % bits
+    data, rows = dump[fields[0] + 12 * colours :], []
+    for row in range(height):
+        line = data[row * per_line :][: 4 * width]
+        rows.append(list(zip(line[2::4], line[1::4], line[0::4])))
+    return rows
+
+
+def chunk(kind, data):
+    return struct.pack(">I", len(data)) + kind + data + struct.pack(">I", zlib.crc32(kind + data))
+
+
+def data_of(rows):
+    """Rows of red, green and blue as a PNG."""
+    lines = b"".join(b"\0" + bytes(value for pixel in row for value in pixel) for row in rows)
+    head = struct.pack(">IIBBBBB", len(rows[0]), len(rows), 8, 2, 0, 0, 0)
+    return b"\x89PNG\r\n\x1a\n" + chunk(b"IHDR", head) + chunk(b"IDAT", zlib.compress(lines, 9)) + chunk(b"IEND", b"")

@@ -23,11 +23,5 @@ def wants(name, option, what="a value"):
     return ("%s: %s wants %s (see %s --help)" % (name, option, what, name)).encode()
 
 
-def not_with_shown(name, option, *rows):
-    """What is said where an option stands beside --shown."""
-    said = "%s: %s and --shown are not taken together (see %s --help)" % (name, option, name)
-    return [(words, said.encode()) for words in rows]
-
-
 def wrong_size(name):
     return b"%s: a size is COLUMNSxROWS, from 2x1 to 1000x1000 (see %s --help)" % (name, name)

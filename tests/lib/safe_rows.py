@@ -182,3 +182,32 @@ SAFE_LEFT_OUT_ROWS = rows(
     ("a colour on itself", b"\x1b[8ma\x1b[28;30;40mb\x1b[mc", b"<U+hidden>b<U+shown>c"),
     ("a less sign before hidden text", b"<\x1b[8mb\x1b[mU+", b"<U+003C>U+"),
 )
+
+# The same of what a screen showed, on any size of 20x6 or more.
+SHOWN_LEFT_OUT_ROWS = rows(
+    ("no bytes", b"", b""),
+    ("a bar that is drawn again", b" 10%\r\x1b[8m 50%\x1b[m\r100%\n", b"100%\n"),
+    ("a note of Jenkins", b"\x1b[8mha:////4AbC+/w==\x1b[0mStarted by user\n", b"Started by user\n"),
+    ("hidden text", b"a\x1b[8mbc\x1b[28md\n", b"ad\n"),
+    ("hidden text at the end", b"a\x1b[8mb", b"a\n"),
+    ("lines that are hidden", b"a\n\x1b[8mb\nc\x1b[m\nd\n", b"a\n\n\nd\n"),
+    ("lines that are hidden and scroll off", b"a\n\x1b[8mb\n\x1b[m" * 60 + b"c", b"a\n\n" * 60 + b"c\n"),
+    ("hidden text that wraps", b"a\x1b[8m" + b"b" * 99 + b"\x1b[mc\n", b"ac\n"),
+    ("hidden text that is written over", b"\x1b[8mabc\x1b[m\rxy\n", b"xy\n"),
+    ("text over which hidden text is written", b"abc\r\x1b[8mxy\x1b[m\n", b"c\n"),
+    ("hidden text that is printed again", b"\x1b[8mabc\x1b[m\rabc\n", b"abc\n"),
+    ("hidden text that is erased", b"\x1b[8mabc\x1b[m\r\x1b[Kd\n", b"d\n"),
+    ("a wide character that is hidden", "\x1b[8m\u5b57\u0301\x1b[ma\n", "a\n"),
+    ("a mark on what shows, in hidden style", "a\x1b[8m\u0301\x1b[mb\n", "a\u0301b\n"),
+    ("a place passed over between hidden letters", b"\x1b[8ma\x1b[Cb\x1b[m.\n", b" .\n"),
+    ("hidden text on the alternate screen", b"a\n\x1b[?1049h\x1b[H\x1b[8mb\x1b[mc", b"a\nc\n"),
+)
+
+# And as safe text: what has the colour of its ground is marked.
+SAFE_SHOWN_LEFT_OUT_ROWS = rows(
+    ("hidden text", b"a\x1b[8mbc\x1b[28md\x07\n", b"ad\n"),
+    ("an override", "a\u202e\x1b[8mb\u202e\x1b[mc\n", "a<U+202E>c\n"),
+    ("a colour on itself", b"\x1b[8ma\x1b[28;30;40mb\x1b[mc\n", b"<U+hidden>b<U+shown>c\n"),
+    ("a less sign before hidden text", b"<\x1b[8mb\x1b[mU+\n", b"<U+003C>U+\n"),
+    ("forged marks", b"<U+shown>\n", b"<U+003C>U+shown>\n"),
+)

@@ -81,6 +81,7 @@ NUMBERED += [("key_pad_0", 40), ("key_pad", 50), ("key_function", 100)]
 NUMBERED += [("held_" + name, 1 << it) for it, name in enumerate("shift alt control super hyper meta caps_lock num_lock".split())]
 NUMBERED += [("event_" + name, 1 + it) for it, name in enumerate("press repeat release".split())]
 NUMBERED += [("place_" + name, it) for it, name in enumerate("cursor saved hidden".split())]
+NUMBERED += [("rows_" + name, it) for it, name in enumerate("shown left all".split())]
 NUMBERED += [("mouse_" + name, 1 + it) for it, name in enumerate("press release move".split())]
 
 # Modes, and the cursor: what is fed to a new screen of 4 columns and 3 rows; its modes, in the order of ansi_modes; and the cursor's row

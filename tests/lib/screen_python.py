@@ -134,7 +134,7 @@ print((taken() - before) / 1e6)
 
 
 # Streams, and what a screen of 4 columns and 3 rows has as text where rows that went on are one line with the next ones: so tmux 3.3a writes
-# it (`capture-pane -J`). A wide character that goes to the next row leaves a blank, which is no part of the line.
+# it (`capture-pane -J`), and tests/lib/screen_lines.py has those that left. A wide character that goes to the next row leaves a blank, which is no part of the line.
 JOINED = [("abcdef", "abcdef\n"), ("ab  cd", "ab  cd\n"), ("abcd\r\nef", "abcd\nef\n"), ("ab\r\n\r\nc", "ab\n\nc\n"), ("", "")]
 JOINED += [("abc\u4e2dd", "abc\u4e2dd\n"), ("a\u4e2d\u4e2dx", "a\u4e2d\u4e2dx\n")]
 JOINED += [("abcde\x1b[A\rwxyz", "wxyze\n"), ("ab\u4e2de\x1b[A\rwxyz", "wxyze\n"), ("abcde\x1b[A\r\x1b[2Kwxyz", "wxyz\ne\n")]
@@ -207,7 +207,7 @@ def memory_cases(ansi):
     screen = ansi.Screen(80, 24, history=24)
     screen.feed(table.STREAM + "\r\n" * 30)
     calls = [lambda: screen.cells, screen.text, lambda: screen.display, screen.changed, screen.changes, screen.draw, screen.to_html]
-    calls += [lambda: screen.history[:], screen.history.text, lambda: screen.cursor, lambda: screen.copy() == screen]
+    calls += [lambda: screen.history[:], screen.history.text, screen.history.to_html, lambda: screen.text(history=True), lambda: screen.cursor, lambda: screen.copy() == screen]
     for call in calls * 2:
         call()
     gc.collect()
@@ -254,6 +254,7 @@ def closed_cases(ansi):
         (TypeError, "a piece is str, bytes, bytearray or memoryview, and not list", lambda: screen.feed([b"a"])),
         (TypeError, "an update leads to a Screen, and not to int", lambda: screen.update(3)),
         (TypeError, "a styling is a name, and not int", lambda: screen.to_html(3)),
+        (TypeError, "a styling is a name, and not int", lambda: screen.history.to_html(3)),
         (TypeError, "a Screen cannot be pickled: draw() gives the bytes that show it again", lambda: __import__("pickle").dumps(screen)),
         (TypeError, "unhashable type: 'Screen'", lambda: hash(screen)),
         (IndexError, "there is no column -1 of 10", lambda: screen.cell(0, -1)),
@@ -265,6 +266,7 @@ def closed_cases(ansi):
     reads = [(name, lambda name=name: it() if callable(it := getattr(screen, name)) else it) for name in reads]
     reads += [("row", lambda: screen.row(0)), ("cell", lambda: screen.cell(0, 0)), ("link", lambda: screen.link(1)), ("==", lambda: screen == screen)]
     reads += [("update", lambda: screen.update(screen)), ("history", lambda: len(screen.history)), ("joined", lambda: screen.text(joined=True))]
+    reads += [("lines that left", lambda: screen.history.text(joined=True)), ("their HTML", lambda: screen.history.to_html())]
     for name, call in reads:
         yield "a closed screen says so: %s" % name, unlike(ValueError, "the screen is closed", call)
     yield "a closed screen is printed", None if str(screen) == "<Screen, closed>" else "it is %r" % str(screen)

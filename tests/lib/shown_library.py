@@ -11,6 +11,7 @@ WRAPPED = ["-Wl,--wrap=malloc", "-Wl,--wrap=realloc"]
 SIZES = [None, (20, 6), (2, 1), (1000, 100)]
 LINE = b'Script started [COMMANDS="x" TERM="xterm" COLUMNS="20" LINES="6"]\n'
 STYLINGS = {"both": [], "light": ["--light"], "dark": ["--dark"], "classes": ["--classes"]}
+OPTIONS = {"lines": "--lines", "urls": "--urls", "no_hidden": "--no-hidden"}
 SHORT = b'[COLUMNS="20" LINES="6"]'  # (a line that has not come to its end)
 
 
@@ -36,7 +37,17 @@ def logs(streams):
     yield from (row[1] for row in [*SHOWN_ROWS[:40], *SHOWN_NARROW_ROWS[:10], *SHOWN_USUAL_ROWS[:10]])
     for number, stream in enumerate(streams):
         yield LINE + stream if number % 3 == 0 else stream
+    yield from further_logs()
     yield from [b"", SHORT, LINE, LINE[:-1] + b"x\n" + 30 * b"y", 5000 * b"z", 4095 * b"z" + b"\n", b"\x1b_bk;t=1\x07$ make\xff\xc3"]
+
+
+def further_logs():
+    """Generated ones with hidden text, addresses, links, lines and marks."""
+    pick = random.Random(90)
+    parts = [b"http://a.b/c ", b"https://example.org/a_(b)?c=d&e;f.", b"mailto:a@b", b"\x1b[8m", b"\x1b[28m", b"\x1b[1;31m", b"\x1b[m", b"\n", b"\r\n", b"\r"]
+    parts += [b"<", b"&", b"\x1b]8;;http://x\x1b\\", b"\x1b]8;;\x1b\\", "e\u0301\u4e2d".encode(), b"\x1b[A", b"\x1b[K", b"\xff", b"x" * 19, b"\x1b[8;31mha:////\x1b[0m"]
+    for _ in range(80):
+        yield b"".join(pick.choice(parts) for _ in range(pick.randrange(60)))
 
 
 def python_cases(ansi_proved, streams, ansi2text, ansi2html):
@@ -50,7 +61,17 @@ def python_cases(ansi_proved, streams, ansi2text, ansi2html):
         safe = run([ansi2text, word, "--safe"], log).stdout
         styling = pick.choice(list(STYLINGS))
         html = run([ansi2html, "--fragment", word, *STYLINGS[styling]], log).stdout
+        more = {name: pick.random() < 0.5 for name in OPTIONS}
+        asked = [option for name, option in OPTIONS.items() if more[name]]
+        hidden = ["--no-hidden"] * more["no_hidden"]
+        by = size or True if pick.random() < 0.7 else False
+        further = run([ansi2html, "--fragment", *[word] * (by is not False), *STYLINGS[styling], *asked], log).stdout
+        bare = pick.choice([["--safe"], ["--lf"], []])
+        named = {name: True for name in ("safe", "lf") if ["--" + name] == bare}
         found = [
+            (further, ansi_proved.to_html(log, styling, shown=by, **more)),
+            (run([ansi2text, *bare, *hidden], log).stdout, ansi_proved.strip(log, no_hidden=more["no_hidden"], **named)),
+            (run([ansi2text, word, *hidden], log).stdout, ansi_proved.shown(log, *(size or ()), no_hidden=more["no_hidden"])),
             (text, ansi_proved.shown(log, *(size or ()))),
             (text, ansi_proved.shown_of(pieces, *(size or ())) if pieces else text),
             (safe, ansi_proved.shown(log, *(size or ()), safe=True)),

@@ -13,17 +13,18 @@ NUMBER = r"-?\d+"
 # what each element may have: attributes, of values of these forms; `?` is one that may be left out
 STYLE = r"(?:[a-z-]+: ?[a-z0-9#(), -]+;)*"
 OF_ELEMENTS = {
-    "svg": {"viewBox": "%s %s %s %s" % ((NUMBER,) * 4), "font-family": ".*", "font-size": r"[\d.]+",
+    "svg": {"viewBox": "%s %s %s %s" % ((NUMBER,) * 4), "width": NUMBER, "height": NUMBER, "font-family": ".*", "font-size": r"[\d.]+",
             "{http://www.w3.org/XML/1998/namespace}space": "preserve"},
     "title": {},
     "style": {},
     "rect": {"x": NUMBER, "y": NUMBER, "width": NUMBER, "height": NUMBER, "class?": "page|bar|cursor", "style?": STYLE},
     "circle": {"cx": NUMBER, "cy": NUMBER, "r": NUMBER},
-    "text": {"x": NUMBER, "y": NUMBER, "textLength?": NUMBER, "class?": "name", "style?": STYLE},
+    "text": {"x": NUMBER, "y": NUMBER, "textLength?": NUMBER, "class?": "name|shape", "style?": STYLE},
+    "path": {"d": r"M\d+ \d+[mhvlaz0-9 .-]+", "style?": STYLE},
     "a": {"href": r"(?:https?://|mailto:)[\x21-\x7e]*"},
 }  # fmt: skip
 # which elements stand in which
-INSIDE = {"svg": {"title", "style", "rect", "circle", "text", "a"}, "a": {"text"}}
+INSIDE = {"svg": {"title", "style", "rect", "circle", "text", "path", "a"}, "a": {"text", "path"}}
 
 
 class Run:
@@ -34,6 +35,7 @@ class Run:
         self.row, self.column, self.columns = y // CELL[1], x // CELL[0], length // CELL[0]
         self.is_placed = (x % CELL[0], y % CELL[1], length % CELL[0]) == (0, 15, 0)
         self.text, self.style, self.href = element.text or "", element.get("style", ""), href
+        self.is_shape = element.get("class") == "shape"
 
 
 class Ground:
@@ -57,6 +59,7 @@ class Picture:
 
     def __init__(self, data):
         self.faults, self.runs, self.grounds, self.others, self.rules = [], [], [], [], ""
+        self.shapes = []
         self.title, self.name, self.view, self.fonts = None, None, (), None
         try:
             root = xml.etree.ElementTree.fromstring(data)
@@ -64,6 +67,8 @@ class Picture:
             self.faults.append("it is no XML: %s" % error)
             return
         self.view, self.fonts = tuple(map(int, root.get("viewBox", "").split())), root.get("font-family")
+        if [root.get("width"), root.get("height")] != list(map(str, self.view[2:])):
+            self.faults.append("its size is not that of its view")
         if data[:4] != b"<svg" or data.rstrip()[-6:] != b"</svg>":
             self.faults.append("it does not begin with <svg or end with </svg>")
         self.take(root, None, "")
@@ -81,10 +86,19 @@ class Picture:
         self.faults += ["%s has no %s" % (name, it) for it in allowed if it[-1] != "?" and element.get(it) is None]
         if name not in ("text", "title", "style") and (element.text or "").strip() or (element.tail or "").strip():
             self.faults.append("text in or after %s: %r, %r" % (name, element.text, element.tail))
-        if name == "text" and element.get("class"):
+        if name == "text" and element.get("class") == "name":
             self.name = element.text or ""
         elif name == "text":
             self.runs.append(Run(element, href))
+            # (shapes stand before the text that they stand for)
+            shape = self.shapes.pop() if self.shapes else None
+            if self.runs[-1].is_shape != (shape is not None):
+                self.faults.append("shapes %s stand before %r" % (shape, self.runs[-1].text))
+            elif shape and shape != ("M%s %d" % (element.get("x"), int(element.get("y")) - 15), self.runs[-1].style, href):
+                self.faults.append("shapes %s stand for %r" % (shape, self.runs[-1].text))
+        elif name == "path":
+            place = re.match(r"M\d+ \d+", element.get("d", ""))
+            self.shapes.append((place and place[0], element.get("style", ""), href))
         elif name == "rect":
             ground = Ground(element)
             (self.others if ground.kind else self.grounds).append(ground)

@@ -518,5 +518,9 @@ def showed(data, width, height):
     return "".join(c for c, _ in lines(data, width, height)).encode()
 
 
+def showed_unhidden(data, width, height):
+    return "".join(c for c, style in lines(data, width, height) if not style.hidden).encode()
+
+
 def showed_styles(data, width, height):
     return [style for _, style in lines(data, width, height)]

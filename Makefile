@@ -203,7 +203,7 @@ install-native: programs $(SHARED) $(SCREEN_SHARED)
 	        echo ".so man3/$$name.3" > $(MAN)/man3/$$function.3 && chmod 644 $(MAN)/man3/$$function.3 || exit 1; \
 	    done; \
 	done
-	$(INSTALL) -m 644 man/ansi_keys.7 $(MAN)/man7/ansi_keys.7
+	$(INSTALL) -m 644 man/ansi_functions.7 man/ansi_keys.7 $(MAN)/man7
 	$(INSTALL) -m 644 $(ARCHIVE) $(LIB)/libansi.a
 	$(INSTALL) $(SHARED) $(LIB)/libansi.so.$(VERSION)
 	ln -sf libansi.so.$(VERSION) $(LIB)/libansi.so.$(MAJOR)
@@ -234,7 +234,7 @@ uninstall:
 	    rm -f $(HEADERS)/$$name.h $(MAN)/man3/$$name.3; \
 	    for function in $$($(FUNCTIONS_OF) man/$$name.3); do rm -f $(MAN)/man3/$$function.3; done; \
 	done
-	rm -f $(MAN)/man7/ansi_keys.7
+	rm -f $(MAN)/man7/ansi_functions.7 $(MAN)/man7/ansi_keys.7
 	for name in ansi ansi_screen; do \
 	    rm -f $(LIB)/lib$$name.a $(LIB)/pkgconfig/$$name.pc $(LIB)/lib$$name.so $(LIB)/lib$$name.so.$(MAJOR); \
 	    rm -f $(LIB)/lib$$name.so.$(VERSION); \

@@ -1,5 +1,6 @@
 # The options and files of ansi2svg, for fish.
 complete -c ansi2svg -l size -x -d 'the size of the screen'
+complete -c ansi2svg -l shown -d 'draw all that the screen showed'
 complete -c ansi2svg -l light -d 'colours for light pages alone'
 complete -c ansi2svg -l dark -d 'colours for dark pages alone'
 complete -c ansi2svg -l cursor -d 'draw the cursor'

@@ -2,6 +2,7 @@
 # The options and files of ansi2svg, for zsh.
 _arguments \
     '--size=[the size of the screen]:COLUMNSxROWS' \
+    '--shown[draw all that the screen showed]' \
     '--light[colours for light pages alone]' \
     '--dark[colours for dark pages alone]' \
     '--cursor[draw the cursor]' \

@@ -3,5 +3,6 @@ pub mod Characters
 pub mod Shapes
 pub mod Runs
 pub mod Picture
+pub mod Drawn
 pub mod Grammar
 pub mod Reading

@@ -18,8 +18,8 @@ use Rattle.ansi_screen.specs.Leaving.{with_kept}
 use Rattle.screen_html.specs.Links.{no_links}
 use Rattle.screen_html.specs.Page.{links_by, all_links}
 use Rattle.screen_svg.specs.declared.drawing.Drawing.{Drawing}
-use Rattle.screen_svg.specs.Drawn.{drawn_svg}
-use Rattle.screen_svg.specs.Picture.{most_above}
+use Rattle.screen_svg.specs.declared.drawing.Extent.{Extent}
+use Rattle.screen_svg.specs.Picture.{all_of, all_shown, most_above, svg}
 use Rattle.ansi2svg.specs.declared.picture.Linked.{Linked}
 
 -- a blank screen of this size, which keeps rows that leave it where all that it shows is drawn; with no link
@@ -49,10 +49,13 @@ linked_after call linked = record linked {
   links = links_by call (after_all (given linked.is_all call) linked.screen) linked.links;
 }
 
--- the picture that is drawn of it
+-- the rows that are drawn, and the picture of them
+abbrev pub drawn_rows : (is_all cursor : Bool) → State → Extent
+drawn_rows is_all cursor s = if is_all then all_shown cursor s else all_of s.display
+
 abbrev pub picture_of : Drawing → (title font : List ℕ) → Linked → List ℕ
 picture_of drawing title font linked =
-    drawn_svg linked.is_all drawing title font linked.links linked.screen
+    svg drawing title font linked.links (drawn_rows linked.is_all drawing.cursor linked.screen) linked.screen
 
 -- The screen took all that the reader gave, with the links that began, and the picture of what it shows then, or of all
 -- that it showed, was written: all of it where no write failed, and where a read failed that of the bytes before it.

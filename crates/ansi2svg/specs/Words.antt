@@ -4,6 +4,10 @@ use Rattle.command_line.specs.Options.{has_word}
 use Rattle.shared_options.specs.Scheme.{scheme_of}
 use Rattle.screen_svg.specs.declared.drawing.Drawing.{Drawing}
 
+-- the fonts where no word names any: those of Debian, macOS, Windows and Fedora whose letters are as wide as a cell
+abbrev pub usual_font : List ℕ
+usual_font = codes "'DejaVu Sans Mono', Menlo, Consolas, 'Liberation Mono', monospace"
+
 -- all that the screen showed is drawn where some word is --shown
 abbrev pub asks_for_all : List (List ℕ) → Bool
 asks_for_all words = has_word (codes "--shown") words

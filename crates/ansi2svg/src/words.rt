@@ -1,8 +1,7 @@
 //! The words of the program: the picture that its options ask for, and what it says of itself.
 ghost use Rattle.std.specs.Prelude.{◌≡◌, [], codes, map, string_bytes, unwrap_or};
 ghost use Rattle.command_line.specs.Options.{last_value};
-ghost use Rattle.screen_svg.specs.Drawn.{usual_font};
-ghost use Rattle.ansi2svg.specs.Words.{asks_for_all, AsksFor};
+ghost use Rattle.ansi2svg.specs.Words.{usual_font, asks_for_all, AsksFor};
 
 use command_line::{OUTPUT, has_word, value_of};
 use screen_svg::{Drawing, FONT};

@@ -1,5 +1,6 @@
 -- The picture of a screen that stands after bytes: what holds of any picture whose links are kept.
 use Rattle.std.proofs.Common.{◌≡◌, ◌≤◌, ◌+◌, ◌*◌, ℕ, Bool, List, length, sym, ap, ◌∙◌, subst}
+use Rattle.std.specs.Prelude.{if◌then◌else◌}
 use Rattle.ansi_html.specs.Links.{IsLink}
 use Rattle.ansi_html.proofs.SoundLemmas.{IsSound}
 use Rattle.ansi_screen.specs.After.{State, new_state}
@@ -7,9 +8,9 @@ use Rattle.screen_html.specs.Links.{Table, link_at}
 use Rattle.screen_html.proofs.HandedLemmas.{sound-link_at}
 use Rattle.screen_svg.specs.Characters.{text_of, IsXmlText}
 use Rattle.screen_svg.specs.declared.drawing.Drawing.{Drawing}
-use Rattle.screen_svg.specs.Drawn.{drawn_svg}
+use Rattle.screen_svg.specs.declared.drawing.Extent.{Extent}
 use Rattle.screen_svg.specs.Grammar.{IsPicture}
-use Rattle.screen_svg.specs.Picture.{rows_in}
+use Rattle.screen_svg.specs.Picture.{all_of, all_shown, rows_in, svg}
 use Rattle.screen_svg.specs.Xml.{read}
 use Rattle.screen_svg.proofs.BoundLemmas.{length-svg}
 use Rattle.screen_svg.proofs.GrammarLemmas.{IsPicture-of}
@@ -21,12 +22,17 @@ use Rattle.screen_pieces.specs.Picture.{scheme_numbered, drawing_told, font_told
 use Rattle.screen_pieces.specs.Terminal.{screen_of, display_of, table_of, links_of, StandsAfter}
 use Rattle.screen_pieces.proofs.LineLawLemmas.{kept-links}
 
--- what is drawn, by its parts
+-- the rows that are drawn of a screen
+abbrev rows_of : (is_all cursor : Bool) → State → Extent
+rows_of is_all cursor s = if is_all then all_shown cursor s else all_of s.display
+
 pub drawn-parts : (known is_all : Bool) (drawing : Drawing) (title font : List ℕ) {k links : Table} {s screen : State} → is_all ≡ known → k ≡ links → s ≡ screen
-    → drawn_svg known drawing title font k s ≡ drawn_svg is_all drawing title font links screen
+    → svg drawing title font k (if known then all_shown drawing.cursor s else all_of s.display) s
+    ≡ svg drawing title font links (if is_all then all_shown drawing.cursor screen else all_of screen.display) screen
 drawn-parts known is_all drawing title font {k} {links} {s} {screen} e f g =
-    ap (λ (b : Bool). drawn_svg b drawing title font k s) (sym e)
-    ∙ (ap (λ (table : Table). drawn_svg is_all drawing title font table s) f ∙ ap (λ (state : State). drawn_svg is_all drawing title font links state) g)
+    ap (λ (b : Bool). svg drawing title font k (rows_of b drawing.cursor s) s) (sym e)
+    ∙ (ap (λ (table : Table). svg drawing title font table (rows_of is_all drawing.cursor s) s) f
+    ∙ ap (λ (state : State). svg drawing title font links (rows_of is_all drawing.cursor state) state) g)
 
 module _ (columns rows : ℕ) (bytes title font : List ℕ) (how : PictureBytes) (terminal : Terminal) (stands : StandsAfter (new_state columns rows) bytes terminal) where
   sound : (number : ℕ) → IsSound (link_at number (links_of terminal))

@@ -1,10 +1,10 @@
 //! What a screen shows, or showed, as a picture, in the caller's room.
 ghost use Rattle.std.specs.Prelude.{◌≡◌, ◌⊎◌, IfOk, IfErr, IfSome};
 ghost use Rattle.anstyle_parse.specs.Io.Output.{Adds};
-ghost use Rattle.screen_pieces.specs.Picture.{scheme_numbered, drawing_told, font_told, svg_of};
+ghost use Rattle.screen_pieces.specs.Picture.{scheme_numbered, drawing_told, font_told, rows_wanted, svg_of};
 ghost use Rattle.screen_pieces.specs.Terminal.{screen_of, table_of};
 ghost use Rattle.screen_pieces.specs.Text.{HasText, LacksRoom};
-ghost use Rattle.screen_svg.specs.Drawn.{drawn_svg};
+ghost use Rattle.screen_svg.specs.Picture.{svg};
 
 use crate::drawing::collected;
 use crate::terminal::Terminal;
@@ -73,8 +73,8 @@ fn write_drawn<W: Sink>(
     font: &str,
     output: Output<W>,
 ) -> Output<W>
-    ensures { Adds W.Sink (drawn_svg is_all drawing title.now font.now (table_of terminal.now)
-        (screen_of terminal.now)) output result }
+    ensures { Adds W.Sink (svg drawing title.now font.now (table_of terminal.now)
+        (rows_wanted is_all drawing.cursor terminal.now) (screen_of terminal.now)) output result }
 {
     let (screen, links) = (terminal.screen(), terminal.links());
     if is_all {

@@ -3,6 +3,5 @@ pub mod Characters
 pub mod Shapes
 pub mod Runs
 pub mod Picture
-pub mod Drawn
 pub mod Grammar
 pub mod Reading

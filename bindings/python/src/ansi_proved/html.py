@@ -35,13 +35,6 @@ def number_of(styling):
     return STYLINGS[styling]
 
 
-def scheme_number_of(scheme):
-    """The number of the styling of a scheme of this name: of all but the classes."""
-    if number_of(scheme) == STYLINGS["classes"]:
-        raise ValueError("a scheme is both, light or dark, and not %r" % (scheme,))
-    return STYLINGS[scheme]
-
-
 def _made(kind, number):
     """A Converter or a ShortConverter, in the styling of this number."""
     state = State()

@@ -8,7 +8,7 @@ from functools import lru_cache
 from operator import index
 from struct import Struct
 
-from .html import number_of, scheme_number_of
+from .html import number_of
 from .library import Idle, bytes_of, function, load
 
 LIBRARY = load("libansi_screen.so", "ANSI_SCREEN_LIBRARY")
@@ -17,6 +17,7 @@ KEPT = 16384  # cells that are kept, to give them again
 KINDS = ["default", "named", "bright", "indexed", "direct"]
 UNDERLINES = ["", "single", "double", "curly", "dotted", "dashed"]
 MOUSE = ["", "presses", "buttons", "drags", "motion"]
+SCHEMES = ["both", "light", "dark"]
 ENCODINGS = ["", "sgr", "urxvt", "pixels"]
 SHAPES = ["", "block", "underline", "bar"]
 ASKED = ["keys", "mouse", "focus", "paste", "synchronized", "reverse", "cursor", "title", "icon", "folder", "progress", "bell", "colors"]
@@ -743,7 +744,7 @@ class Screen:
         then its own up to the last in which something was printed. cursor: with a frame around its cell, where it is shown. window: with
         the bar of a window above, and the title in it. font: as font-family of CSS has it, in place of the usual ones.
         """
-        how = PictureBytes(scheme_number_of(scheme), bool(history), bool(cursor), bool(window))
+        how = PictureBytes(_place_in(SCHEMES, scheme, "a scheme"), bool(history), bool(cursor), bool(window))
         title, font = _utf8_of(title, "a title"), _utf8_of(font, "a font")
         return self._text_by(_svg, ctypes.addressof(how), title, len(title), font, len(font))
 

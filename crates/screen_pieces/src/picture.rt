@@ -84,7 +84,22 @@ fn write_drawn<W: Sink>(
     }
 }
 
-/// The picture as bytes; `None` where memory was wanting.
+/// Writes the picture that is told.
+fn write_picture<W: Sink>(
+    terminal: &Terminal,
+    how: PictureBytes,
+    title: &str,
+    font: &str,
+    output: Output<W>,
+) -> Output<W>
+    ensures { Adds W.Sink (svg_of how title.now font.now terminal.now) output result }
+{
+    let drawing = how.drawing();
+    let wanted = wanted_font(font);
+    write_drawn(terminal, how.shown != 0, drawing, title, wanted, output)
+}
+
+/// The same as bytes; `None` where memory was wanting.
 fn picture(
     alloc: Global,
     terminal: &Terminal,
@@ -95,8 +110,7 @@ fn picture(
     ensures { IfSome result (λ bytes. bytes.items ≡ svg_of how title.now font.now terminal.now) }
 {
     let output = Output::new(FromWrite::new(Vec::new(alloc)));
-    let (is_all, font) = (how.shown != 0, wanted_font(font));
-    collected(write_drawn(terminal, is_all, how.drawing(), title, font, output))
+    collected(write_picture(terminal, how, title, font, output))
 }
 
 impl Terminal {

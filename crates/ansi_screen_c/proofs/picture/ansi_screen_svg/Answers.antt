@@ -1,5 +1,5 @@
 -- What was held is drawn, with a title and fonts that have these bytes.
-use Rattle.std.proofs.Common.{ℕ, List, inr, subst}
+use Rattle.std.proofs.Common.{ℕ, List, subst}
 use Rattle.std.specs.Prelude.{◌≡◌, ◌⊎◌, IfOk, IfErr}
 use Rattle.screen_pieces.specs.Picture.{svg_of}
 use Rattle.screen_pieces.specs.Text.{HasText, LacksRoom}
@@ -16,7 +16,7 @@ returns-in-Some-clause-text c =
     c.deref.result.now c.args.screen.now.value c.in-Some.ensures.taken c.deref.ensures c.told.result c.told.new.written
     c.told.ensures.ok
     (subst (λ (title : List ℕ). has title c.args.font.now) c.in-Ok.ensures.cases.0
-    (subst (λ (font : List ℕ). has c.in-Ok.named.now font) c.in-Ok-2.ensures.cases.0 c.svg-answer.ensures.text))
+    (subst (λ (font : List ℕ). has c.in-Ok.named.now font) c.in-Ok-from_utf8.ensures.cases.0 c.svg-answer.ensures.text))
 
 pub returns-in-Some-clause-refused : goal.returns-in-Some-clause-refused
 returns-in-Some-clause-refused c =
@@ -27,4 +27,4 @@ returns-in-Some-clause-refused c =
     c.deref.result.now c.args.screen.now.value c.in-Some.ensures.taken c.deref.ensures c.told.result c.told.new.written
     c.told.ensures.err
     (subst (λ (title : List ℕ). lacks title c.args.font.now) c.in-Ok.ensures.cases.0
-    (subst (λ (font : List ℕ). lacks c.in-Ok.named.now font) c.in-Ok-2.ensures.cases.0 c.svg-answer.ensures.refused))
+    (subst (λ (font : List ℕ). lacks c.in-Ok.named.now font) c.in-Ok-from_utf8.ensures.cases.0 c.svg-answer.ensures.refused))

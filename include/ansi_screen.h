@@ -3,7 +3,8 @@
  *
  * A stream comes in pieces of any size, cut anywhere: the screen after it is the same. No input is refused. Memory is
  * taken by ansi_screen_open, ansi_screen_open_with and ansi_screen_copy (malloc), and given back by ansi_screen_close (free);
- * by ansi_screen_draw, ansi_screen_update, ansi_screen_html and ansi_screen_lines_html while they work; and by no other call.
+ * by ansi_screen_draw, ansi_screen_update, ansi_screen_html, ansi_screen_lines_html and ansi_screen_svg while they work; and by
+ * no other call.
  * The library has no data of its own: threads may call it at the same time, each with a screen of its own.
  *
  *     ansi_screen screen = {0};
@@ -261,6 +262,16 @@ typedef struct ansi_colors {
     ansi_rgb palette[256];
 } ansi_colors;
 
+/* How a picture is drawn, in 8 bytes: zero bytes draw what the screen shows, for light and dark pages. The numbers from `shown` on
+ * ask for what they name where they are not 0. */
+typedef struct ansi_picture {
+    uint8_t scheme; /* 1 for light pages, 2 for dark ones, and any other number for both (prefers-color-scheme) */
+    uint8_t shown;  /* all that the screen showed */
+    uint8_t cursor; /* the cursor too, as a frame around its cell, where the screen shows it */
+    uint8_t window; /* the bar of a window above the screen, with the title */
+    uint8_t reserved[4]; /* 0 */
+} ansi_picture;
+
 /* Holds a new screen of so many columns and rows, blank, at the beginning of a stream. What it held is freed. Answers
  * false, and holds none, where that is no size, or where there is no memory. */
 bool ansi_screen_open(ansi_screen *screen, size_t columns, size_t rows);
@@ -449,6 +460,16 @@ bool ansi_screen_lines(ansi_screen *screen, unsigned char which, unsigned char *
  * spare now, and not with what was as the row left. */
 bool ansi_screen_lines_html(ansi_screen *screen, unsigned char which, unsigned char styling,
                             unsigned char *room, size_t size, size_t *written);
+
+/* What the screen shows as a picture, SVG in UTF-8, as ansi2svg(1) writes it of the same screen; memory is taken while it works.
+ * With `shown` it is of all that it showed: the last 1,000 of the rows that left and are kept, then its own up to the last in which
+ * something was printed, and with `cursor` to that of the cursor. Where 1,000 rows are kept, without `drops_erased`, that is what
+ * ansi2svg(1) writes with --shown of a stream that has CR LF between its lines.
+ * The title and the fonts, as font-family of CSS has them, are UTF-8, and no markup of them comes in. A title of 0 bytes is none,
+ * and fonts of 0 bytes are the usual ones. Of the stream no markup, no script and no reference comes in but links, as those of
+ * ansi_screen_link. Answers false, and `written` is 0, where the title or the fonts are no UTF-8. */
+bool ansi_screen_svg(ansi_screen *screen, const ansi_picture *picture, const unsigned char *title, size_t title_size,
+                     const unsigned char *font, size_t font_size, unsigned char *room, size_t size, size_t *written);
 
 #ifdef __cplusplus
 }

@@ -3,6 +3,7 @@ each sees all of a piece or nothing of it. PYTHONPATH says where the package is;
 
 import collections
 import itertools
+import re
 import sys
 import threading
 from functools import partial
@@ -59,6 +60,7 @@ READS = {
     "row": lambda screen, other: text_of_cells([screen.row(2)]),
     "cells": lambda screen, other: text_of_cells(screen.cells),
     "to_html": lambda screen, other: screen.to_html(),
+    "to_svg": lambda screen, other: "".join(re.findall(">([^<>]*)</text>", screen.to_svg(history=True))),
     "copy": lambda screen, other: moment_of(screen.copy()),
     "history": lambda screen, other: text_of_cells(screen.history[:]),
     "history.display": lambda screen, other: "".join(screen.history.display),

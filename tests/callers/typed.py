@@ -159,6 +159,7 @@ with Screen(120, 40, history=100) as screen:
     row = history[-1]
     number = len(history) + history.left + screen.columns + screen.rows
     text = history.text() + history.row_text(0) + screen.link(1) + screen.to_html("dark") + screen.part_text(0, 1, 2)
+    text = screen.to_svg() + screen.to_svg("dark", history=True, cursor=True, window=True, title="a", font="b")
     data = screen.draw() + screen.update(screen.copy())
     flag = screen == screen.copy()
     screen.feed(5)  # wrong
@@ -172,6 +173,8 @@ with Screen(120, 40, history=100) as screen:
     screen.text  # (a function that is not called is no error)
     number = screen.text()  # wrong
     screen.to_html("red")  # wrong
+    screen.to_svg("classes")  # wrong
+    screen.to_svg("dark", False, True)  # wrong
     screen.link("1")  # wrong
     screen.update(b"a")  # wrong
     screen.columns = 5  # wrong

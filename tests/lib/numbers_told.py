@@ -30,6 +30,11 @@ MODES_ASKED = ["1 presses (9), 2 releases too (1000), 3 drags (1002), 4 motion (
 SHAPES = "0 the terminal's own, 1 a block, 2 a line below, 3 a bar (decscusr)"
 BUTTONS = "1 left, 2 middle, 3 right, 4 wheel up, 5 down, 6 left, 7 right, 8 back, 9 forward"
 ANSWERED = ["becomes {ON} where older ones were lost since the last such call, else {OFF}: at most {MAX_WAITING} wait", "dsr 5 and 6, decxcpr", "csi 18 t, csi ? u, and osc 4, 10, 11 and 12 with ?"]
+# what the header and its page say of pictures
+PICTURES = [
+    "{LIGHT} for light pages, {DARK} for dark ones, and any other number for both", "ask for what they name where they are not {OFF}", "the last {MOST_ABOVE} of the rows that left and are kept",
+    "where {MOST_ABOVE} rows are kept", "a title of 0 bytes is none, and fonts of 0 bytes are the usual ones",
+]  # fmt: skip
 CUT_OFF = ["with the byte, counted from {FIRST}, at which the string begins"]
 PHRASES = {
     "include/ansi_events.h": [
@@ -70,6 +75,7 @@ PHRASES = {
     ],
     "include/ansi_screen.h": [
         "and no byte 9c in such a one",
+        *PICTURES, "a picture is drawn, in {ansi_picture} bytes", "with the title. {OFF}.", "answers false, and written is 0, where the title",
         *OWED, *ANSWERED, "in {ansi_rgb} bytes: or none, where told is 0", "own colours, in {ansi_colors} bytes", "a character that is broken is u+fffd", "none, in {ansi_screen} bytes", "any other number is {ANY_STYLING}", "one of xterm's 256, by its number", "a colour, in {ansi_color} bytes",
         "is shown, in {ansi_style} bytes", "from bold on each is {ON} or {OFF}.. {OFF}. how much of a character", "of a screen shows, in {ansi_cell} bytes", "each link (osc 8) since the last reset; {NO_LINK} for none",
         "{GOES_ON} in the last cell of a row from which autowrap went on to the next: both are one line. {OFF}.", "modes, in {ansi_modes} bytes: each is {ON} where it is on, else {OFF}", "dectcem. 1049. decawm",
@@ -85,6 +91,7 @@ PHRASES = {
         "where ed 2, ed 0 at its first cell or ris", "the oldest has the number {FIRST}, and the one that left last kept - 1",
     ],
     "man/ansi_screen.3": [
+        *PICTURES, "ansi_picture has, in {ansi_picture} bytes", "reserved[{RESERVED_PICTURE}]\" {OFF}",
         *OWED, *ANSWERED, "ansi_rgb has, in {ansi_rgb} bytes", "told\" 0 where no colour is told", "ansi_colors has, in {ansi_colors} bytes", "palette[256]", "a character that is broken is u+fffd", "from {MIN_COLUMNS} to {MAX_COLUMNS}, and rows, from {MIN_ROWS} to {MAX_ROWS}", "the rest of them is 0", "rows and columns are counted from {FIRST}",
         "has bytes from {LOWEST} to {HIGHEST} alone", "the last {LINKS} links that began are kept", "it answers true, and written is 0",
         "is {ANY_STYLING} for light and dark pages, {LIGHT} for light ones, {DARK} for dark ones, and {CLASSES} for classes", "any other number is {ANY_STYLING}", "where ed 2, ed 0 at its first cell or ris",
@@ -133,7 +140,7 @@ CONSTANTS = {
     "event_pieces/src/event": ["MAX_INTERMEDIATES"], "html_pieces/src/state": ["MAX_LINK"], "html_pieces/src/feeding": ["CAPACITY", "MOST_TAKEN"],
     "screen_html/src/table": ["MOST_KEPT"], "screen_svg/src/rows": ["MOST_ABOVE"], "screen_draw/src/updates": ["PIECE"], "screen_text/src/recording": ["MOST_FRONT"], "ansi2html/src/words": ["MOST_OF_A_TAG"], "ansi_html/src/block": ["LINES_A_BLOCK"],
     "command_line/src/lib": ["FAILED", "MISUSED", "READER_GONE"], "ansi_screen/src/size": ["MIN_COLUMNS", "MAX_COLUMNS", "MIN_ROWS", "MAX_ROWS"],
-    "screen_pieces/src/cell": ["RESERVED_CELL"], "screen_pieces/src/style": ["RESERVED_STYLE"], "screen_pieces/src/modes": ["RESERVED_MODES"], "screen_pieces/src/parts": ["RESERVED_PLACE"], "ansi_modes/src/text": ["MAX_TEXT"], "ansi_answers/src/waiting": ["MAX_WAITING"], "ansi_screen_c/src/history": ["RESERVED_OPTIONS"], "ansi_html/src/spare": ["BYTE_EARNS", "FEED_COUNTS"],
+    "screen_pieces/src/cell": ["RESERVED_CELL"], "screen_pieces/src/style": ["RESERVED_STYLE"], "screen_pieces/src/modes": ["RESERVED_MODES"], "screen_pieces/src/parts": ["RESERVED_PLACE"], "screen_pieces/src/picture": ["RESERVED_PICTURE"], "ansi_modes/src/text": ["MAX_TEXT"], "ansi_answers/src/waiting": ["MAX_WAITING"], "ansi_screen_c/src/history": ["RESERVED_OPTIONS"], "ansi_html/src/spare": ["BYTE_EARNS", "FEED_COUNTS"],
 }  # fmt: skip
 PLAIN = ["PIECE", "MOST_FRONT", "MAX_COLUMNS", "MAX_ROWS", "ansi_colors"]  # which stand there with no commas
 
@@ -162,7 +169,7 @@ def numbers(read, constant, executed):
     times = read("crates/ansi_html/specs/Html.antt")
     for name, styling in ("INLINE", r"\(Inline scheme\)"), ("BY_CLASSES", "Classes"):
         found[name] = int(re.search(r"(?m)^html_of_a_byte %s = (\d+)$" % styling, times)[1])
-    callers = "".join(read("tests/callers/%s.c" % it) for it in ("answers", "events", "header", "html", "lf", "parts", "safe", "screen"))
+    callers = "".join(read("tests/callers/%s.c" % it) for it in ("answers", "events", "header", "html", "lf", "parts", "pictures", "safe", "screen"))
     found.update((name, int(size)) for name, size in re.findall(r"static_assert\(sizeof\((?:struct )?(\w+)\) == (\d+),", callers))
     found = {name: str(it) if name in PLAIN or name.startswith("RECORDED") else "{:,}".format(it) for name, it in found.items()}
     held = {name: it if isinstance(it, str) else "{:,}".format(it) for name, it in HELD.items()}

@@ -255,6 +255,9 @@ def closed_cases(ansi):
         (TypeError, "an update leads to a Screen, and not to int", lambda: screen.update(3)),
         (TypeError, "a styling is a name, and not int", lambda: screen.to_html(3)),
         (TypeError, "a styling is a name, and not int", lambda: screen.history.to_html(3)),
+        (ValueError, "a scheme is one of 'both', 'light', 'dark', and not 'classes'", lambda: screen.to_svg("classes")),
+        (TypeError, "a title is a str, and not bytes", lambda: screen.to_svg(title=b"a")),
+        (TypeError, "a font is a str, and not NoneType", lambda: screen.to_svg(font=None)),
         (TypeError, "a Screen cannot be pickled: draw() gives the bytes that show it again", lambda: __import__("pickle").dumps(screen)),
         (TypeError, "unhashable type: 'Screen'", lambda: hash(screen)),
         (IndexError, "there is no column -1 of 10", lambda: screen.cell(0, -1)),
@@ -262,7 +265,7 @@ def closed_cases(ansi):
     for error, said, call in words:
         yield "%s: %s" % (error.__name__, said), unlike(error, said, call)
     screen.close()
-    reads = ["text", "cells", "display", "draw", "to_html", "changed", "changes", "cursor", "style", "modes", "copy", "reset"]
+    reads = ["text", "cells", "display", "draw", "to_html", "to_svg", "changed", "changes", "cursor", "style", "modes", "copy", "reset"]
     reads = [(name, lambda name=name: it() if callable(it := getattr(screen, name)) else it) for name in reads]
     reads += [("row", lambda: screen.row(0)), ("cell", lambda: screen.cell(0, 0)), ("link", lambda: screen.link(1)), ("==", lambda: screen == screen)]
     reads += [("update", lambda: screen.update(screen)), ("history", lambda: len(screen.history)), ("joined", lambda: screen.text(joined=True))]

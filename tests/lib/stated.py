@@ -55,6 +55,7 @@ SAID_IN = {
         "modes, in 16 bytes: each is 1 where it is on, else 0",
         "the oldest has the number 0, and the one that left last kept - 1",
         "answers false, and written is 0, where they have different sizes",
+        "answers false, and written is 0, where the title or the fonts are no utf-8",
         "where there is none, they answer false, and written is 0",
     ],
     "man/ansi_screen.3": [
@@ -66,6 +67,7 @@ SAID_IN = {
         "ansi_screen_row, ansi_screen_hidden_row, ansi_screen_history_row and ansi_screen_stops do where there is room for less than the screen has columns",
         "the oldest has the number 0",
         "ansi_screen_draw, ansi_screen_update and ansi_screen_html also do where there is no memory, and ansi_screen_update where the sizes differ",
+        "ansi_screen_lines_html and ansi_screen_svg also do where there is no memory, and ansi_screen_svg where the title or the fonts are no utf-8",
     ],
     # (what safe text does not hide, and what it is not)
     "docs/USING.md": ["what the log erases or writes over stands in it, unmarked. with --shown it is not there", "titles, targets of links and images are left out"],

@@ -23,12 +23,13 @@
 //! It can't be resized: [`events`](crate::events) of the same bytes tell what asks for that.
 //!
 //! Its library takes memory by `malloc`: in [`Screen::new`], [`Screen::with_history`], [`Screen::with_scrolled_history`] and
-//! [`Screen::try_clone`], and in [`Screen::draw`], [`Screen::update`], [`Screen::to_html`], [`Screen::lines_html`], [`Screen::key`],
-//! [`Screen::mouse`], [`Screen::paste`] and [`Screen::focus`] while they work.
+//! [`Screen::try_clone`], and in [`Screen::draw`], [`Screen::update`], [`Screen::to_html`], [`Screen::lines_html`], [`Screen::to_svg`],
+//! [`Screen::key`], [`Screen::mouse`], [`Screen::paste`] and [`Screen::focus`] while they work.
 
 mod answers;
 mod keys;
 mod parts;
+mod picture;
 mod shown;
 
 pub use answers::{Answers, Colors, Rgb};
@@ -36,6 +37,7 @@ pub use keys::{
     Action, Asked, Button, Encoding, Event, Held, Key, Mouse, Move, Pad, Shape, Tracking, Wheel,
 };
 pub use parts::{color_rgb, Charsets, Saved};
+pub use picture::{Picture, Scheme};
 pub use shown::{shown, CannotShow, Form, How, ShownLog};
 
 use crate::Styling;

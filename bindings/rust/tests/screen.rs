@@ -2,7 +2,7 @@
 //! repository.)
 #![cfg(feature = "screen")]
 
-use ansi_proved::screen::{Action, Button, CannotOpen, Cell, Color, Encoding, Event, Held, Key, Mouse, Move, Pad, Part, Place, Rows, Screen, Shape, Style};
+use ansi_proved::screen::{Action, Button, CannotOpen, Cell, Color, Encoding, Event, Held, Key, Mouse, Move, Pad, Part, Picture, Place, Rows, Scheme, Screen, Shape, Style};
 use ansi_proved::screen::{self, CannotShow, Form, How, ShownLog};
 use ansi_proved::screen::{Answers, Colors, Rgb, Tracking, Wheel};
 use ansi_proved::{to_html, Styling};
@@ -187,6 +187,23 @@ fn rows_are_written_as_lines() {
     assert_eq!(screen.lines_html(Rows::Left, Styling::Light), format!("{bold}{link}&lt;xy\n"));
     assert_eq!(screen.lines_html(Rows::All, Styling::Dark), format!("{bold}{link}&lt;xyz\n"));
     assert_eq!(screen.lines_html(Rows::Left, Styling::Classes).matches("class=").count(), 2);
+}
+
+/// A row that left, one that shows, the cursor below it, and the bar of a window.
+#[test]
+fn pictures() {
+    let mut screen = Screen::with_history(4, 1, 2).unwrap();
+    screen.feed(b"a<\r\nb");
+    let (left, shown) = ("y=\"15\" textLength=\"20\">a&lt;</text>", "textLength=\"10\">b</text>");
+    let plain = screen.to_svg(Picture::default());
+    assert!(plain.contains(shown) && !plain.contains(left) && plain.contains("color-scheme:light dark;"));
+    assert!(!plain.contains("<title>") && !plain.contains("class=\"cursor\"") && plain.contains("viewBox=\"0 0 40 20\""));
+    let dark = Picture { scheme: Scheme::Dark, shown: true, cursor: true, window: true, title: "t&", font: "F" };
+    let dark = screen.to_svg(dark);
+    assert!(dark.contains(left) && dark.contains(shown) && dark.contains("color-scheme:dark;") && dark.contains("font-family=\"F\""));
+    assert!(dark.contains("<title>t&amp;</title>") && dark.contains("class=\"cursor\"") && dark.contains("viewBox=\"0 -30 40 70\""));
+    let light = Picture { scheme: Scheme::Light, ..Picture::default() };
+    assert!(screen.to_svg(light).contains("color-scheme:light;"));
 }
 
 #[test]

@@ -12,6 +12,7 @@ mod lines;
 mod loose;
 mod page;
 mod parts;
+mod picture;
 mod same;
 mod shown;
 mod shown_handle;

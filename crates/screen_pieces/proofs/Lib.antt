@@ -5,6 +5,7 @@ pub mod SendLemmas
 pub mod TextLemmas
 pub mod LineLemmas
 pub mod LineLawLemmas
+pub mod PictureLemmas
 pub mod LinkLemmas
 pub mod WholeRowLemmas
 pub mod DrawingLemmas

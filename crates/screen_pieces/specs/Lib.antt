@@ -8,6 +8,7 @@ pub mod Answers
 pub mod Terminal
 pub mod Same
 pub mod Page
+pub mod Picture
 pub mod Rows
 pub mod Lines
 pub mod Modes

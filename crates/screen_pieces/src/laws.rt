@@ -1,5 +1,5 @@
-//! Laws of the rows that leave a screen, of lines, of copies, of what changes, and of what is told.
-ghost use Rattle.std.specs.Prelude.{◌≡◌, ◌≤◌, ℕ, Bool, List, map};
+//! Laws of the rows that leave a screen, of lines, of pictures, of copies, of what changes, and of what is told.
+ghost use Rattle.std.specs.Prelude.{◌≡◌, ◌≤◌, ◌+◌, ◌*◌, ℕ, Bool, List, length, map};
 ghost use Rattle.std.specs.Str.{IsUtf8};
 ghost use Rattle.anstyle_parse.specs.Stream.Call.{Call};
 ghost use Rattle.ansi_answers.specs.declared.color.Theme.{Theme};
@@ -15,6 +15,12 @@ ghost use Rattle.screen_pieces.specs.declared.terminal.Terminal.{Terminal};
 ghost use Rattle.std.specs.List.{AllByRecursion};
 ghost use Rattle.screen_pieces.specs.History.{HasCells};
 ghost use Rattle.screen_pieces.specs.Page.{styling_numbered};
+ghost use Rattle.screen_pieces.specs.declared.picture.PictureBytes.{PictureBytes as APicture};
+ghost use Rattle.screen_pieces.specs.Picture.{scheme_numbered, font_told, rows_drawn, picture_of, svg_of};
+ghost use Rattle.screen_svg.specs.Characters.{text_of, IsXmlText};
+ghost use Rattle.screen_svg.specs.Grammar.{IsPicture};
+ghost use Rattle.screen_svg.specs.Picture.{rows_in};
+ghost use Rattle.screen_svg.specs.Xml.{read as read_xml};
 ghost use Rattle.screen_pieces.specs.Rows.{lines_of, html_of_lines};
 ghost use Rattle.screen_pieces.specs.Terminal.{display_of, StandsAfter, IsCopy, Tells, TakesAnswers, HasTheme, Feeds, CanHaveChanged};
 
@@ -44,6 +50,26 @@ pub fn lines_are_fragments()
         → AllByRecursion IsLink (map href_of (read (html_of_lines which styling terminal))) }
     ensures utf8 { (columns rows which styling : ℕ) (bytes : List ℕ) (terminal : Terminal)
         → StandsAfter (new_state columns rows) bytes terminal → IsUtf8 (html_of_lines which styling terminal) }
+{}
+
+/// The picture of a screen, drawn in any way, after any bytes from a new one on: a reader of XML reads exactly the tags and
+/// the text that were meant, so that no markup comes in, of the stream, of the title or of the fonts (`read_back`). They
+/// stand in the grammar of pictures, without script, whose links begin with https://, http:// or mailto: (`grammar`), and
+/// have characters that XML may have, in UTF-8 (`characters`). There are at most 7,700 bytes for each cell, 12 for each of
+/// the title as it is written, 6 for each of the fonts, and 1,960 more (`bound`).
+pub fn pictures_are_read()
+    ensures read_back { (columns rows : ℕ) (bytes title font : List ℕ) (how : APicture) (terminal : Terminal)
+        → StandsAfter (new_state columns rows) bytes terminal
+        → read_xml (svg_of how title font terminal) ≡ picture_of how title font terminal }
+    ensures grammar { (columns rows : ℕ) (bytes title font : List ℕ) (how : APicture) (terminal : Terminal)
+        → StandsAfter (new_state columns rows) bytes terminal
+        → IsPicture (scheme_numbered how.scheme) (read_xml (svg_of how title font terminal)) }
+    ensures characters { (columns rows : ℕ) (bytes title font : List ℕ) (how : APicture) (terminal : Terminal)
+        → StandsAfter (new_state columns rows) bytes terminal → IsXmlText (svg_of how title font terminal) }
+    ensures bound { (columns rows : ℕ) (bytes title font : List ℕ) (how : APicture) (terminal : Terminal)
+        → StandsAfter (new_state columns rows) bytes terminal → length (svg_of how title font terminal)
+        ≤ 7700 * (rows_in (rows_drawn how terminal) * (display_of terminal).width)
+        + (12 * length (text_of title) + (6 * length (text_of (font_told font)) + 1960)) }
 {}
 
 /// What has changed is told: where a screen has forgotten what can have changed, and has then been fed a piece, each

@@ -16,7 +16,7 @@ use std::alloc::{AllocError, Global};
 /// A screen that takes its stream in pieces.
 ///
 /// Memory is taken by [`Terminal::new`], [`Terminal::with_history`] and [`Terminal::copy`], and by [`Terminal::draw`],
-/// [`Terminal::update`], [`Terminal::html`], [`Terminal::key`], [`Terminal::mouse`], [`Terminal::paste`] and
+/// [`Terminal::update`], [`Terminal::html`], [`Terminal::svg`], [`Terminal::key`], [`Terminal::mouse`], [`Terminal::paste`] and
 /// [`Terminal::focus`] while they work.
 #[derive(Drop)]
 pub struct Terminal {

@@ -17,6 +17,7 @@ KEPT = 16384  # cells that are kept, to give them again
 KINDS = ["default", "named", "bright", "indexed", "direct"]
 UNDERLINES = ["", "single", "double", "curly", "dotted", "dashed"]
 MOUSE = ["", "presses", "buttons", "drags", "motion"]
+SCHEMES = ["both", "light", "dark"]
 ENCODINGS = ["", "sgr", "urxvt", "pixels"]
 SHAPES = ["", "block", "underline", "bar"]
 ASKED = ["keys", "mouse", "focus", "paste", "synchronized", "reverse", "cursor", "title", "icon", "folder", "progress", "bell", "colors"]
@@ -114,6 +115,10 @@ class OwnColors(ctypes.Structure):
     _fields_ = [*((name, RgbBytes) for name in ("foreground", "background", "cursor")), ("palette", RgbBytes * 256)]
 
 
+class PictureBytes(ctypes.Structure):
+    _fields_ = [(name, ctypes.c_ubyte) for name in ("scheme", "shown", "cursor", "window")] + [("reserved", ctypes.c_ubyte * 4)]
+
+
 class Options(ctypes.Structure):
     _fields_ = [("history", ctypes.c_size_t), ("drops_erased", ctypes.c_size_t), ("reserved", ctypes.c_size_t * 6)]
 
@@ -153,6 +158,7 @@ _history, _history_row = _call("ansi_screen_history", _AT, _AT), _call("ansi_scr
 _history_text = _call("ansi_screen_history_text", _SIZE, *_WRITES)
 _lines = _call("ansi_screen_lines", ctypes.c_ubyte, *_WRITES)
 _lines_html = _call("ansi_screen_lines_html", ctypes.c_ubyte, ctypes.c_ubyte, *_WRITES)
+_svg = _call("ansi_screen_svg", _AT, _AT, _SIZE, _AT, _SIZE, *_WRITES)
 _feed_keeping = _call("ansi_screen_feed_keeping", _AT, _SIZE, _SIZE, _AT)
 _asked, _title = _call("ansi_screen_asked", _AT), _call("ansi_screen_title", *_WRITES)
 _answers, _colors = _call("ansi_screen_answers", *_WRITES, _AT), _call("ansi_screen_colors", _AT)
@@ -237,6 +243,13 @@ def _key_of(name, shifted, event, held):
     other = name.upper() if shifted is None else shifted
     bytes_of_key.character, bytes_of_key.shifted = ord(name), ord(other) if len(other) == 1 and other != name else 0
     return bytes_of_key
+
+
+def _utf8_of(text, what):
+    """The UTF-8 of a str, with U+FFFD for a surrogate."""
+    if not isinstance(text, str):
+        raise TypeError("%s is a str, and not %s" % (what, type(text).__name__))
+    return text.encode("utf-16-le", "surrogatepass").decode("utf-16-le", "replace").encode()
 
 
 def _rgb_of(color):
@@ -723,6 +736,17 @@ class Screen:
         kept come before, as `text` has them."""
         number = number_of(styling)
         return self._text_by(_lines_html, _ALL, number) if history else self._text_by(_html, number)
+
+    def to_svg(self, scheme="both", history=False, *, cursor=False, window=False, title="", font=""):
+        """A picture of what it shows, as `ansi2svg` writes it: SVG, whose text is text.
+
+        scheme: "light" or "dark" for pages of one kind. history: all that it showed, the last 1,000 of the rows that left and are kept, and
+        then its own up to the last in which something was printed. cursor: with a frame around its cell, where it is shown. window: with
+        the bar of a window above, and the title in it. font: as font-family of CSS has it, in place of the usual ones.
+        """
+        how = PictureBytes(_place_in(SCHEMES, scheme, "a scheme"), bool(history), bool(cursor), bool(window))
+        title, font = _utf8_of(title, "a title"), _utf8_of(font, "a font")
+        return self._text_by(_svg, ctypes.addressof(how), title, len(title), font, len(font))
 
     def draw(self):
         """The bytes after which any terminal of its size shows this screen: all but links and which rows go on."""

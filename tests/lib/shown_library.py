@@ -58,7 +58,6 @@ def python_cases(ansi_proved, streams, ansi2text, ansi2html):
         word = "--shown" if size is None else "--shown=%dx%d" % size
         pieces = [log[at : at + 7] for at in range(0, len(log), 7)]
         text = run([ansi2text, word], log).stdout
-        safe = run([ansi2text, word, "--safe"], log).stdout
         styling = pick.choice(list(STYLINGS))
         html = run([ansi2html, "--fragment", word, *STYLINGS[styling]], log).stdout
         more = {name: pick.random() < 0.5 for name in OPTIONS}
@@ -68,13 +67,17 @@ def python_cases(ansi_proved, streams, ansi2text, ansi2html):
         further = run([ansi2html, "--fragment", *[word] * (by is not False), *STYLINGS[styling], *asked], log).stdout
         bare = pick.choice([["--safe"], ["--lf"], []])
         named = {name: True for name in ("safe", "lf") if ["--" + name] == bare}
+        left = run([ansi2text, *bare, *hidden], log).stdout
+        options = {"safe": pick.random() < 0.5, "no_hidden": more["no_hidden"]}
+        seen = run([ansi2text, word, *["--safe"] * options["safe"], *hidden], log).stdout
         found = [
             (further, ansi_proved.to_html(log, styling, shown=by, **more)),
-            (run([ansi2text, *bare, *hidden], log).stdout, ansi_proved.strip(log, no_hidden=more["no_hidden"], **named)),
-            (run([ansi2text, word, *hidden], log).stdout, ansi_proved.shown(log, *(size or ()), no_hidden=more["no_hidden"])),
+            (further, b"".join(ansi_proved.html_of(pieces, styling, shown=by, **more))),
+            (left, ansi_proved.strip(log, no_hidden=more["no_hidden"], **named)),
+            (left, b"".join(ansi_proved.text_of(pieces, no_hidden=more["no_hidden"], **named))),
+            (seen, ansi_proved.shown(log, *(size or ()), **options)),
+            (seen, ansi_proved.shown_of(pieces, *(size or ()), **options) if pieces else seen),
             (text, ansi_proved.shown(log, *(size or ()))),
-            (text, ansi_proved.shown_of(pieces, *(size or ())) if pieces else text),
-            (safe, ansi_proved.shown(log, *(size or ()), safe=True)),
             (html, ansi_proved.to_html(log, styling, shown=size or True)),
         ]
         wrong += [(log, word, had) for wanted, had in found if wanted != had]

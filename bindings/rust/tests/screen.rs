@@ -287,8 +287,15 @@ fn types_go_into_those_of_a_user() {
     assert_eq!((screen.cell(1, 0), screen.style()), (Some(Cell::default()), Style::default()));
     assert_eq!(screen.row(0).chain(screen.row(1)).collect::<HashSet<_>>().len(), 2);
     assert_eq!(HashSet::from([(screen.cursor(), screen.modes()); 2]).len(), 1);
+    assert_eq!(HashSet::from([(How::default(), How::from(Form::Text)), (Form::Text.into(), How::from(Form::default()))]).len(), 1);
     let opened = |columns| -> Result<Shown, Box<dyn Error + Send + Sync>> { Ok(Shown(Screen::new(columns, 2)?)) };
     assert!(opened(4).unwrap() != Shown(screen) && opened(1).err().unwrap().is::<CannotOpen>());
+    let written = |log: &[u8], columns| -> Result<String, Box<dyn Error + Send + Sync>> {
+        let mut shown = ShownLog::with_size(Form::Text, columns, 2)?;
+        shown.feed(log)?;
+        Ok(shown.end()?)
+    };
+    assert!(written(b"a", 4).unwrap() == "a\n" && written(b"a", 1).err().unwrap().is::<CannotShow>());
 }
 
 #[test]
@@ -332,4 +339,5 @@ fn shown_logs() {
         let opened = ShownLog::with_size(Form::Text, columns, rows);
         assert_eq!(opened.err(), Some(CannotShow), "{columns}x{rows}");
     }
+    assert!(CannotShow.to_string().contains("2 to 1000 columns"));
 }

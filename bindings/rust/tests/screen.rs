@@ -3,7 +3,7 @@
 #![cfg(feature = "screen")]
 
 use ansi_proved::screen::{Action, Button, CannotOpen, Cell, Color, Encoding, Event, Held, Key, Mouse, Move, Pad, Part, Place, Rows, Screen, Shape, Style};
-use ansi_proved::screen::{self, CannotShow, Form, How, ShownLog};
+use ansi_proved::screen::{self, CannotShow, Charsets, Form, How, ShownLog};
 use ansi_proved::screen::{Answers, Colors, Rgb, Tracking, Wheel};
 use ansi_proved::{to_html, Styling};
 use std::collections::HashSet;
@@ -282,12 +282,19 @@ fn all_differ<T: PartialEq + std::fmt::Debug>(names: &[impl std::fmt::Debug], al
 fn types_go_into_those_of_a_user() {
     #[derive(PartialEq, Eq)]
     struct Shown(Screen);
+    #[derive(Clone, Copy, PartialEq, Eq)]
+    struct Failed(CannotOpen, CannotShow);
 
     let screen = shown(4, 2, "a");
     assert_eq!((screen.cell(1, 0), screen.style()), (Some(Cell::default()), Style::default()));
     assert_eq!(screen.row(0).chain(screen.row(1)).collect::<HashSet<_>>().len(), 2);
     assert_eq!(HashSet::from([(screen.cursor(), screen.modes()); 2]).len(), 1);
-    assert_eq!(HashSet::from([(How::default(), How::from(Form::Text)), (Form::Text.into(), How::from(Form::default()))]).len(), 1);
+    let mouse = Mouse { action: Action::Turn(Wheel::Up), held: Held::default(), column: 0, row: 0, x: 0, y: 0 };
+    let keys = (Key::Pad(Pad::Digit(5)), Key::Move(Move::Up), Event::default(), Button::Left, mouse, screen.asked());
+    assert_eq!(HashSet::from([(Cell::default(), screen.saved(), Rows::All, Rgb { red: 1, green: 2, blue: 3 }, keys); 2]).len(), 1);
+    assert_eq!((screen.saved().charsets, keys.2, How::from(Form::default())), (Charsets::default(), Event::Press, How::default()));
+    assert_eq!(HashSet::from([(How::default(), Form::Text); 2]).len(), 1);
+    assert!([Failed(CannotOpen, CannotShow); 2] == [Failed(CannotOpen, CannotShow); 2]);
     let opened = |columns| -> Result<Shown, Box<dyn Error + Send + Sync>> { Ok(Shown(Screen::new(columns, 2)?)) };
     assert!(opened(4).unwrap() != Shown(screen) && opened(1).err().unwrap().is::<CannotOpen>());
     let written = |log: &[u8], columns| -> Result<String, Box<dyn Error + Send + Sync>> {

@@ -4,7 +4,7 @@ addresses as links."""
 import ctypes
 
 from .html import number_of
-from .library import Shared, address_of, bytes_of, function, pieces_of, whole_of, whole_text
+from .library import Room, Shared, address_of, bytes_of, decoded, function, pieces_of, whole_of, whole_text
 from .lines import Lines
 from .screen import LIBRARY, check_size
 
@@ -47,14 +47,16 @@ class Log:
             if not _feed(self._at, start + at, min(PIECE, count - at)):
                 raise MemoryError(NO_MEMORY)
 
-    def end(self):
+    def end(self, made=bytes):
+        """What is written of all that came, made of memory."""
         if not _end(self._at):
             raise MemoryError(NO_MEMORY)
-        length, none = _SIZE(), ctypes.create_string_buffer(1)
-        _text(self._at, ctypes.addressof(none), 0, ctypes.addressof(length))
-        room = ctypes.create_string_buffer(max(1, length.value))
-        _text(self._at, ctypes.addressof(room), length.value, ctypes.addressof(length))
-        return room.raw[: length.value]
+        length, room = _SIZE(), Room(1)
+        _text(self._at, room.address, 0, ctypes.addressof(length))
+        if length.value > room.size:
+            room = Room(length.value)
+        _text(self._at, room.address, length.value, ctypes.addressof(length))
+        return made(room.view[: length.value])
 
     def __enter__(self):
         return self
@@ -88,10 +90,8 @@ def _written(pieces, options, lf=False):
     with Log(options) as log:
         for piece, is_str in pieces:
             log.feed(piece)
-        found = log.end()
-    if lf:
-        return whole_text(Lines(Stripped()), found, is_str)
-    return found.decode() if is_str else found
+        found = log.end(decoded if is_str and not lf else bytes)
+    return whole_text(Lines(Stripped()), found, is_str) if lf else found
 
 
 def _pieces(stream):

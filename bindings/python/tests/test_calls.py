@@ -192,12 +192,12 @@ class Calls(unittest.TestCase):
             (text_of, {"no_hidden": True, "lf": True}, hidden, "a\u202e\n1%\r2%\n"),
             (text_of, {"no_hidden": True, "safe": True}, hidden, "a<U+202E>\n1%<U+000D>2%\n"),
             (text_of, {"no_hidden": True, "safe": True, "lf": True}, hidden, "a<U+202E>\n1%<U+000D>2%\n"),
-            (html_of, {"no_hidden": True}, hidden, "a\u202e&#13;\n1%&#13;2%\n"),
+            (html_of, {"no_hidden": True}, hidden, "a\u202e&#13;\n1%&#13;<br>2%\n"),
             (html_of, {"shown": True}, "1%\r2%\n", "2%\n"),
             (html_of, {"shown": (2, 2)}, "abc\r\x1b[X", "ab\n"),
             (html_of, {"lines": True}, "<\n\nb\n", line % (1, 1, 1, "&lt;") + line % (2, 2, 2, "") + line % (3, 3, 3, "b")),
             (html_of, {"urls": True}, "http://a.b\n", link + "\n"),
-            (html_of, {"styling": "classes", "lines": True}, "\x1b[1mb\n", line % (1, 1, 1, '<span class="ansi-bold">b</span>')),
+            (html_of, {"styling": "classes", "lines": True}, "\x1b[1mb\x1b[m\n", line % (1, 1, 1, '<span class="ansi-bold">b</span>')),
         ]
         for call, words, whole, wanted in rows:
             for given in (whole, whole.encode()):

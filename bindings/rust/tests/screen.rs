@@ -285,7 +285,7 @@ fn types_go_into_those_of_a_user() {
     #[derive(Clone, Copy, PartialEq, Eq)]
     struct Failed(CannotOpen, CannotShow);
 
-    let screen = shown(4, 2, "a");
+    let mut screen = shown(4, 2, "a");
     assert_eq!((screen.cell(1, 0), screen.style()), (Some(Cell::default()), Style::default()));
     assert_eq!(screen.row(0).chain(screen.row(1)).collect::<HashSet<_>>().len(), 2);
     assert_eq!(HashSet::from([(screen.cursor(), screen.modes()); 2]).len(), 1);

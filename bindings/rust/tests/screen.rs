@@ -5,7 +5,7 @@
 use ansi_proved::screen::{Action, Button, CannotOpen, Cell, Color, Encoding, Event, Held, Key, Mouse, Move, Pad, Part, Place, Rows, Screen, Shape, Style};
 use ansi_proved::screen::{self, CannotShow, Charsets, Form, How, ShownLog};
 use ansi_proved::screen::{Answers, Colors, Rgb, Tracking, Wheel};
-use ansi_proved::{to_html, Styling};
+use ansi_proved::{to_html, Styling, UnknownStyling};
 use std::collections::HashSet;
 use std::error::Error;
 use std::panic::catch_unwind;
@@ -283,7 +283,9 @@ fn types_go_into_those_of_a_user() {
     #[derive(PartialEq, Eq)]
     struct Shown(Screen);
     #[derive(Clone, Copy, PartialEq, Eq)]
-    struct Failed(CannotOpen, CannotShow);
+    struct Failed(CannotOpen, CannotShow, UnknownStyling);
+    #[derive(PartialEq, Eq)]
+    struct Told(Answers, Colors);
 
     let mut screen = shown(4, 2, "a");
     assert_eq!((screen.cell(1, 0), screen.style()), (Some(Cell::default()), Style::default()));
@@ -294,7 +296,9 @@ fn types_go_into_those_of_a_user() {
     assert_eq!(HashSet::from([(Cell::default(), screen.saved(), Rows::All, Rgb { red: 1, green: 2, blue: 3 }, keys); 2]).len(), 1);
     assert_eq!((screen.saved().charsets, keys.2, How::from(Form::default())), (Charsets::default(), Event::Press, How::default()));
     assert_eq!(HashSet::from([(How::default(), Form::Text); 2]).len(), 1);
-    assert!([Failed(CannotOpen, CannotShow); 2] == [Failed(CannotOpen, CannotShow); 2]);
+    let failed = [Failed(CannotOpen, CannotShow, "red".parse::<Styling>().unwrap_err()); 2];
+    assert!(failed[0] == failed[1]);
+    assert!(Told(screen.answers(), Colors::default()) == Told(Answers::default(), Colors::default()));
     let opened = |columns| -> Result<Shown, Box<dyn Error + Send + Sync>> { Ok(Shown(Screen::new(columns, 2)?)) };
     assert!(opened(4).unwrap() != Shown(screen) && opened(1).err().unwrap().is::<CannotOpen>());
     let written = |log: &[u8], columns| -> Result<String, Box<dyn Error + Send + Sync>> {

@@ -337,6 +337,7 @@ class Calls(unittest.TestCase):
     def test_what_a_terminal_shows(self):
         rows = [(" 10%\r 50%\r100%\n", "100%\n"), ("a\nb\n", "a\nb\n"), ("", ""), ("a  \x1b[31mb", "a  b\n"), ("a\x1b[2;1Hb\n", "a\nb\n")]
         rows += [("x" * 100 + "\n", "x" * 100 + "\n"), ("%d\n" * 60 % tuple(range(60)),) * 2, ("\x1b[?1049hb", "b\n"), ("a\x1b[?1049h\x1b[1;1Hb", "a\nb\n")]
+        rows.append((50_000 * "abc\n",) * 2)  # (the library is given 64 KiB at a time)
         for text, wanted in rows:
             self.assertEqual((ansi_proved.shown(text), ansi_proved.shown(text.encode())), (wanted, wanted.encode()))
         self.assertEqual(ansi_proved.shown("ab\x1b[Hc", 2, 1), "cb\n")

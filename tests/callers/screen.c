@@ -36,6 +36,7 @@ static_assert(sizeof(ansi_mouse) == 12, "and so has the mouse");
 static_assert(offsetof(ansi_mouse, action) == 8 && offsetof(ansi_mouse, modifiers) == 10, "of which places are first");
 static_assert(ANSI_SCREEN_ROW_ROOM(1 + 1) == 24 && ANSI_SCREEN_TEXT_ROOM(80, 24) == 23064, "rooms are as they are said");
 static_assert(ANSI_SCREEN_TEXT_ROOM(1 + 1, 1 + 1) == 50, "arguments stand in brackets");
+static_assert(ANSI_SCREEN_LINK_ROOM == 1035 && ANSI_SCREEN_TITLE_ROOM == 1024 && ANSI_SCREEN_KEY_ROOM == 64, "and so are these");
 
 /* The types: with another one this is a warning, and warnings are errors. */
 static bool (*const open_screen)(ansi_screen *, size_t, size_t) = ansi_screen_open;

@@ -234,7 +234,9 @@ def share_streams():
         "text_of": ansi_proved.text_of,
         "text_of, safe": lambda given: ansi_proved.text_of(given, safe=True),
         "text_of, lf": lambda given: ansi_proved.text_of(given, lf=True),
+        "text_of, no_hidden": lambda given: ansi_proved.text_of(given, no_hidden=True),
         "html_of": ansi_proved.html_of,
+        "html_of, shown": lambda given: ansi_proved.html_of(given, shown=(80, 24), lines=True),
         "events": ansi_proved.events,
         "events of a whole": lambda given: ansi_proved.events(STREAM),
     }

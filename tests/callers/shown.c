@@ -1,5 +1,6 @@
 /* What include/ansi_shown.h declares, and what a caller rests on: sizes, rows worked by hand, every cut, each allocation failing in turn,
- * what is refused. It answers how many of these are wrong. The linker wraps malloc and realloc. */
+ * what is refused. It answers how many of these are wrong. With the numbers of options it writes what is written of standard input. The
+ * linker wraps malloc and realloc. */
 #include "ansi_shown.h"
 #include "ansi_shown.h" /* (a second time: it guards itself) */
 
@@ -163,7 +164,33 @@ static void without_memory(void) {
     }
 }
 
-int main(void) {
+/* The numbers are those of form, lines, urls, no_hidden and no_screen, for a screen of 120 columns and 40 rows. */
+static bool filters(char **numbers) {
+    static unsigned char piece[65536];
+    ansi_shown shown = {0};
+    ansi_shown_options options = {.columns = 120, .rows = 40};
+    uint8_t *const asked[] = {&options.form, &options.lines, &options.urls, &options.no_hidden, &options.no_screen};
+    unsigned char *text;
+    size_t count, written = 0;
+    bool is_well;
+
+    for (size_t at = 0; at < sizeof asked / sizeof asked[0]; at++)
+        *asked[at] = (uint8_t)atoi(numbers[at]);
+    is_well = ansi_shown_open(&shown, &options);
+    while (is_well && (count = fread(piece, 1, sizeof piece, stdin)))
+        is_well = ansi_shown_feed(&shown, piece, count);
+    is_well = is_well && ansi_shown_end(&shown);
+    (void)ansi_shown_text(&shown, piece, 0, &written);
+    text = malloc(written + 1);
+    is_well = is_well && text && ansi_shown_text(&shown, text, written, &written) && fwrite(text, 1, written, stdout) == written;
+    free(text);
+    ansi_shown_close(&shown);
+    return is_well;
+}
+
+int main(int count, char **words) {
+    if (count == 6)
+        return !filters(&words[1]);
     cuts();
     forms();
     options_tried();

@@ -64,11 +64,14 @@ bytes_parts = ansi_proved.text_of([b"a"], safe=True, lf=True)
 bytes_parts = ansi_proved.text_of(open("log", "rb"), lf=True)
 bytes_parts = ansi_proved.text_of(open("log", "rb"))
 bytes_parts = ansi_proved.text_of(sys.stdin.buffer)
+bytes_parts = ansi_proved.text_of([b"a"], lf=True, no_hidden=True)
 bytes_parts = ansi_proved.html_of(io.BytesIO(b"a"), "dark")
+bytes_parts = ansi_proved.html_of([b"a"], shown=(80, 24), lines=True, urls=True, no_hidden=True)
 str_parts: Iterator[str] = ansi_proved.text_of(["a", "b"])
 str_parts = ansi_proved.text_of(sys.stdin)
 str_parts = ansi_proved.text_of(sys.stdin, lf=True)
 str_parts = ansi_proved.html_of(open("log"))
+str_parts = ansi_proved.html_of(["a"], "classes", shown=True)
 bytes_parts = ansi_proved.text_of(["a"])  # wrong
 str_parts = ansi_proved.text_of([b"a"])  # wrong
 str_parts = ansi_proved.text_of([b"a"], lf=True)  # wrong
@@ -78,6 +81,9 @@ ansi_proved.text_of(5)  # wrong
 ansi_proved.text_of(b"a")  # wrong
 ansi_proved.text_of([5])  # wrong
 ansi_proved.html_of([b"a"], "red")  # wrong
+ansi_proved.html_of([b"a"], shown=80)  # wrong
+ansi_proved.text_of([b"a"], no_hidden="a")  # wrong
+str_parts = ansi_proved.html_of([b"a"], lines=True)  # wrong
 ansi_proved.html_of(None)  # wrong
 for part in ansi_proved.text_of([b"a"]):
     text = part  # wrong

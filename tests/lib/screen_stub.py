@@ -71,7 +71,8 @@ def function_cases(of, told):
     """What a class has, and what its functions are given."""
     wrong = {name for name in vars(of) if not name.startswith("_")} ^ {it.name for it in public(told)} ^ set(kept(told))
     yield "Python: types are told of all that a %s has" % told.name, "not so of %s" % sorted(wrong) if wrong else None
-    for it in public(told):
+    made = [it for it in told.body if isinstance(it, ast.FunctionDef) and it.name == "__init__"]
+    for it in public(told) + made:
         name, has = "%s.%s" % (told.name, it.name), getattr(of, it.name, None)
         is_property = any(ast.unparse(by) == "property" for by in it.decorator_list)
         wrong = is_property != isinstance(has, property)

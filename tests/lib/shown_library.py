@@ -2,9 +2,10 @@
 on rows worked by hand."""
 
 import random
+import shutil
 
 from lib.expected_shown import SHOWN_NARROW_ROWS, SHOWN_ROWS, SHOWN_USUAL_ROWS
-from lib.library_shared import ROOT, SANITIZERS, WARNINGS, compiler, failure, left_out, run
+from lib.library_shared import ROOT, SANITIZERS, WARNINGS, compiler, failure, left_out, measure, run
 
 CALLER = "%s/tests/callers/shown.c" % ROOT
 WRAPPED = ["-Wl,--wrap=malloc", "-Wl,--wrap=realloc"]
@@ -13,6 +14,14 @@ LINE = b'Script started [COMMANDS="x" TERM="xterm" COLUMNS="20" LINES="6"]\n'
 STYLINGS = {"both": [], "light": ["--light"], "dark": ["--dark"], "classes": ["--classes"]}
 OPTIONS = {"lines": "--lines", "urls": "--urls", "no_hidden": "--no-hidden"}
 SHORT = b'[COLUMNS="20" LINES="6"]'  # (a line that has not come to its end)
+# the numbers of a form and of lines, urls, no_hidden and no_screen, by which tests/callers/shown.c writes what a program does by these words
+ASKED = {
+    "0 0 0 1 1": ["--no-hidden"],
+    "1 0 0 1 0": ["--safe", "--no-hidden", "--shown=120x40"],
+    "2 1 0 0 1": ["--fragment", "--lines"],
+    "2 1 1 1 0": ["--fragment", "--lines", "--urls", "--no-hidden", "--shown=120x40"],
+}
+DEARER = 1.3  # times the instructions of the program for a byte, which is promised
 
 
 def c_cases(room, archive):
@@ -58,7 +67,6 @@ def python_cases(ansi_proved, streams, ansi2text, ansi2html):
         word = "--shown" if size is None else "--shown=%dx%d" % size
         pieces = [log[at : at + 7] for at in range(0, len(log), 7)]
         text = run([ansi2text, word], log).stdout
-        safe = run([ansi2text, word, "--safe"], log).stdout
         styling = pick.choice(list(STYLINGS))
         html = run([ansi2html, "--fragment", word, *STYLINGS[styling]], log).stdout
         more = {name: pick.random() < 0.5 for name in OPTIONS}
@@ -68,13 +76,17 @@ def python_cases(ansi_proved, streams, ansi2text, ansi2html):
         further = run([ansi2html, "--fragment", *[word] * (by is not False), *STYLINGS[styling], *asked], log).stdout
         bare = pick.choice([["--safe"], ["--lf"], []])
         named = {name: True for name in ("safe", "lf") if ["--" + name] == bare}
+        left = run([ansi2text, *bare, *hidden], log).stdout
+        options = {"safe": pick.random() < 0.5, "no_hidden": more["no_hidden"]}
+        seen = run([ansi2text, word, *["--safe"] * options["safe"], *hidden], log).stdout
         found = [
             (further, ansi_proved.to_html(log, styling, shown=by, **more)),
-            (run([ansi2text, *bare, *hidden], log).stdout, ansi_proved.strip(log, no_hidden=more["no_hidden"], **named)),
-            (run([ansi2text, word, *hidden], log).stdout, ansi_proved.shown(log, *(size or ()), no_hidden=more["no_hidden"])),
+            (further, b"".join(ansi_proved.html_of(pieces, styling, shown=by, **more))),
+            (left, ansi_proved.strip(log, no_hidden=more["no_hidden"], **named)),
+            (left, b"".join(ansi_proved.text_of(pieces, no_hidden=more["no_hidden"], **named))),
+            (seen, ansi_proved.shown(log, *(size or ()), **options)),
+            (seen, ansi_proved.shown_of(pieces, *(size or ()), **options) if pieces else seen),
             (text, ansi_proved.shown(log, *(size or ()))),
-            (text, ansi_proved.shown_of(pieces, *(size or ())) if pieces else text),
-            (safe, ansi_proved.shown(log, *(size or ()), safe=True)),
             (html, ansi_proved.to_html(log, styling, shown=size or True)),
         ]
         wrong += [(log, word, had) for wanted, had in found if wanted != had]
@@ -86,6 +98,22 @@ def python_cases(ansi_proved, streams, ansi2text, ansi2html):
     yield "a page has what was shown", None if "<pre>\n2%\n</pre>" in page else "it is %r" % page[-200:]
     found = ansi_proved.shown("a\udcff\u202e"), ansi_proved.shown("a\u202e", safe=True)
     yield "of a str it is a str", None if found == ("a\ufffd\u202e\n", "a<U+202E>\n") else "it is %r" % (found,)
+
+
+def cost_cases(room, archive, counted, ansi2text, ansi2html):
+    """What a byte costs by some options, beside the programs."""
+    if not shutil.which("valgrind") or not compiler("gcc", "cc"):
+        return
+    path = "%s/shown_costs" % room
+    yield "tests/callers/shown.c is built again", failure(run([compiler("gcc", "cc"), "-O2", *WARNINGS, CALLER, archive, *WRAPPED, "-o", path]))
+    stream = measure.corpus(measure.colours, 100_000)
+    for numbers, words in ASKED.items():
+        commands = [ansi2html if numbers[0] == "2" else ansi2text, *words], [path, *numbers.split()]
+        wanted, found = (run(it, stream).stdout for it in commands)
+        yield "the library writes what the program does by %s" % " ".join(words), None if wanted == found else "it does not"
+        by_program, took = ((counted(it, stream, room) - counted(it, b"", room)) / len(stream) for it in commands)
+        why = "that is too much" if took > DEARER * by_program else None
+        yield "which takes %.1f instructions a byte, and the library %.1f" % (by_program, took), why
 
 
 def refused_cases(ansi_proved):

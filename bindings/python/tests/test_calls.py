@@ -182,6 +182,38 @@ class Calls(unittest.TestCase):
         pages = {ansi_proved.to_html("\x1b[31ma", styling) for styling in ansi_proved.STYLINGS}
         self.assertEqual(len(pages), 4)
 
+    def test_what_comes_at_the_end_of_pieces(self):
+        hidden = "a\x1b[8mb\x1b[m\u202e\r\n1%\r2%\n"
+        line = '<span id="L%d"><a href="#L%d" data-line="%d"></a>%s\n</span>'
+        link = '<a rel="nofollow noreferrer" href="http://a.b" style="color:inherit;">http://a.b</a>'
+        text_of, html_of = ansi_proved.text_of, ansi_proved.html_of
+        rows = [
+            (text_of, {"no_hidden": True}, hidden, "a\u202e\r\n1%\r2%\n"),
+            (text_of, {"no_hidden": True, "lf": True}, hidden, "a\u202e\n1%\r2%\n"),
+            (text_of, {"no_hidden": True, "safe": True}, hidden, "a<U+202E>\n1%<U+000D>2%\n"),
+            (text_of, {"no_hidden": True, "safe": True, "lf": True}, hidden, "a<U+202E>\n1%<U+000D>2%\n"),
+            (html_of, {"no_hidden": True}, hidden, "a\u202e&#13;\n1%&#13;<br>2%\n"),
+            (html_of, {"shown": True}, "1%\r2%\n", "2%\n"),
+            (html_of, {"shown": (2, 2)}, "abc\r\x1b[X", "ab\n"),
+            (html_of, {"lines": True}, "<\n\nb\n", line % (1, 1, 1, "&lt;") + line % (2, 2, 2, "") + line % (3, 3, 3, "b")),
+            (html_of, {"urls": True}, "http://a.b\n", link + "\n"),
+            (html_of, {"styling": "classes", "lines": True}, "\x1b[1mb\x1b[m\n", line % (1, 1, 1, '<span class="ansi-bold">b</span>')),
+        ]
+        for call, words, whole, wanted in rows:
+            for given in (whole, whole.encode()):
+                for size in (1, 3, 1000):
+                    parts = list(call((given[at : at + size] for at in range(0, len(given), size)), **words))
+                    self.assertEqual([(type(it), str_of(it)) for it in parts], [(type(given), wanted)])
+            self.assertEqual([*call([], **words), *call([b"", "\x1b["], **words)], [])
+            self.assertRaisesRegex(TypeError, "^the pieces are a list or a file, and not one str$", call, "a", **words)
+            self.assertRaisesRegex(TypeError, "^a piece is str, .* and not int$", list, call([b"a", 5], **words))
+        self.assertEqual("".join(html_of(iter(["\x1b[1m1%\r", "2%"]), shown=True)), ansi_proved.to_html("\x1b[1m1%\r2%", shown=True))
+        for size in (80, None, "ab", (80,), (80, 24, 1)):
+            self.assertRaisesRegex(TypeError, "^shown is .* and not ", html_of, [], shown=size)
+            self.assertRaisesRegex(TypeError, "^shown is .* and not ", ansi_proved.to_html, "", shown=size)
+        self.assertRaisesRegex(ValueError, "^a screen has .* and not 1x24$", html_of, [], shown=(1, 24))
+        self.assertRaises(ValueError, html_of, [], "blue", lines=True)
+
     def test_events(self):
         stream = "a\n\x1b[38:2:9;1m\x1b(B\x1b]0;one;two\x07\x1bP1qx\x1b\\"
         wanted = [
@@ -305,6 +337,7 @@ class Calls(unittest.TestCase):
     def test_what_a_terminal_shows(self):
         rows = [(" 10%\r 50%\r100%\n", "100%\n"), ("a\nb\n", "a\nb\n"), ("", ""), ("a  \x1b[31mb", "a  b\n"), ("a\x1b[2;1Hb\n", "a\nb\n")]
         rows += [("x" * 100 + "\n", "x" * 100 + "\n"), ("%d\n" * 60 % tuple(range(60)),) * 2, ("\x1b[?1049hb", "b\n"), ("a\x1b[?1049h\x1b[1;1Hb", "a\nb\n")]
+        rows.append((50_000 * "abc\n",) * 2)  # (the library is given 64 KiB at a time)
         for text, wanted in rows:
             self.assertEqual((ansi_proved.shown(text), ansi_proved.shown(text.encode())), (wanted, wanted.encode()))
         self.assertEqual(ansi_proved.shown("ab\x1b[Hc", 2, 1), "cb\n")

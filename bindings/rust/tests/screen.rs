@@ -3,9 +3,9 @@
 #![cfg(feature = "screen")]
 
 use ansi_proved::screen::{Action, Button, CannotOpen, Cell, Color, Encoding, Event, Held, Key, Mouse, Move, Pad, Part, Picture, Place, Rows, Scheme, Screen, Shape, Style};
-use ansi_proved::screen::{self, CannotShow, Form, How, ShownLog};
+use ansi_proved::screen::{self, CannotShow, Charsets, Form, How, ShownLog};
 use ansi_proved::screen::{Answers, Colors, Rgb, Tracking, Wheel};
-use ansi_proved::{to_html, Styling};
+use ansi_proved::{to_html, Styling, UnknownStyling};
 use std::collections::HashSet;
 use std::error::Error;
 use std::panic::catch_unwind;
@@ -299,13 +299,31 @@ fn all_differ<T: PartialEq + std::fmt::Debug>(names: &[impl std::fmt::Debug], al
 fn types_go_into_those_of_a_user() {
     #[derive(PartialEq, Eq)]
     struct Shown(Screen);
+    #[derive(Clone, Copy, PartialEq, Eq)]
+    struct Failed(CannotOpen, CannotShow, UnknownStyling);
+    #[derive(PartialEq, Eq)]
+    struct Told(Answers, Colors);
 
-    let screen = shown(4, 2, "a");
+    let mut screen = shown(4, 2, "a");
     assert_eq!((screen.cell(1, 0), screen.style()), (Some(Cell::default()), Style::default()));
     assert_eq!(screen.row(0).chain(screen.row(1)).collect::<HashSet<_>>().len(), 2);
     assert_eq!(HashSet::from([(screen.cursor(), screen.modes()); 2]).len(), 1);
+    let mouse = Mouse { action: Action::Turn(Wheel::Up), held: Held::default(), column: 0, row: 0, x: 0, y: 0 };
+    let keys = (Key::Pad(Pad::Digit(5)), Key::Move(Move::Up), Event::default(), Button::Left, mouse, screen.asked());
+    assert_eq!(HashSet::from([(Cell::default(), screen.saved(), Rows::All, Rgb { red: 1, green: 2, blue: 3 }, keys); 2]).len(), 1);
+    assert_eq!((screen.saved().charsets, keys.2, How::from(Form::default())), (Charsets::default(), Event::Press, How::default()));
+    assert_eq!(HashSet::from([(How::default(), Form::Text); 2]).len(), 1);
+    let failed = [Failed(CannotOpen, CannotShow, "red".parse::<Styling>().unwrap_err()); 2];
+    assert!(failed[0] == failed[1]);
+    assert!(Told(screen.answers(), Colors::default()) == Told(Answers::default(), Colors::default()));
     let opened = |columns| -> Result<Shown, Box<dyn Error + Send + Sync>> { Ok(Shown(Screen::new(columns, 2)?)) };
     assert!(opened(4).unwrap() != Shown(screen) && opened(1).err().unwrap().is::<CannotOpen>());
+    let written = |log: &[u8], columns| -> Result<String, Box<dyn Error + Send + Sync>> {
+        let mut shown = ShownLog::with_size(Form::Text, columns, 2)?;
+        shown.feed(log)?;
+        Ok(shown.end()?)
+    };
+    assert!(written(b"a", 4).unwrap() == "a\n" && written(b"a", 1).err().unwrap().is::<CannotShow>());
 }
 
 #[test]
@@ -349,4 +367,5 @@ fn shown_logs() {
         let opened = ShownLog::with_size(Form::Text, columns, rows);
         assert_eq!(opened.err(), Some(CannotShow), "{columns}x{rows}");
     }
+    assert!(CannotShow.to_string().contains("2 to 1000 columns"));
 }

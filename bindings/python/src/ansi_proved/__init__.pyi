@@ -54,9 +54,13 @@ def shown_of(
     no_hidden: bool = False,
 ) -> bytes: ...
 @overload
-def text_of(stream: Union[Iterable[str], _File[str]], *, safe: bool = False, lf: bool = False) -> Iterator[str]: ...
+def text_of(
+    stream: Union[Iterable[str], _File[str]], *, safe: bool = False, lf: bool = False, no_hidden: bool = False
+) -> Iterator[str]: ...
 @overload
-def text_of(stream: Union[Iterable[_Bytes], _File[bytes]], *, safe: bool = False, lf: bool = False) -> Iterator[bytes]: ...
+def text_of(
+    stream: Union[Iterable[_Bytes], _File[bytes]], *, safe: bool = False, lf: bool = False, no_hidden: bool = False
+) -> Iterator[bytes]: ...
 @overload
 def to_html(
     text: str,
@@ -78,9 +82,25 @@ def to_html(
     no_hidden: bool = False,
 ) -> bytes: ...
 @overload
-def html_of(stream: Union[Iterable[str], _File[str]], styling: _Styling = "both") -> Iterator[str]: ...
+def html_of(
+    stream: Union[Iterable[str], _File[str]],
+    styling: _Styling = "both",
+    *,
+    shown: _Shown = False,
+    lines: bool = False,
+    urls: bool = False,
+    no_hidden: bool = False,
+) -> Iterator[str]: ...
 @overload
-def html_of(stream: Union[Iterable[_Bytes], _File[bytes]], styling: _Styling = "both") -> Iterator[bytes]: ...
+def html_of(
+    stream: Union[Iterable[_Bytes], _File[bytes]],
+    styling: _Styling = "both",
+    *,
+    shown: _Shown = False,
+    lines: bool = False,
+    urls: bool = False,
+    no_hidden: bool = False,
+) -> Iterator[bytes]: ...
 @overload
 def page(
     text: str,

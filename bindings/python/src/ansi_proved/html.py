@@ -55,12 +55,16 @@ SHORT = [_short(number) for number in STYLINGS.values()]
 BOTH, OF_BOTH = "both", SHORT[0]
 
 
-def html_of(stream, styling="both"):
-    """Gives the HTML of a stream that comes in pieces, as a list or a file: as that of `to_html`.
+def html_of(stream, styling="both", *, shown=False, lines=False, urls=False, no_hidden=False):
+    """Gives the HTML of a stream that comes in pieces, as a list or a file: as that of `to_html`, with the same words.
 
     What pieces are, `text_of` says, and so it is with threads. The HTML of a piece is given before the next piece is asked for,
-    and what closes it at the end.
+    and what closes it at the end; with `shown`, `lines`, `urls` or `no_hidden` all of it comes at the end.
     """
+    if shown is not False or lines or urls or no_hidden:
+        from .log import html_by, written_of  # (the library of the screen is loaded where it is wanted)
+
+        return written_of(stream, html_by(styling, shown, lines=lines, urls=urls, no_hidden=no_hidden))
     return Shared(parts_of(_made(Converter, number_of(styling)), pieces_of(stream)))
 
 
@@ -71,9 +75,9 @@ def to_html(text, styling=BOTH, *, shown=False, lines=False, urls=False, no_hidd
     with its number, to link to, which `stylesheet` has rules for. urls: addresses in the text are links too. no_hidden: without the
     text that it hides (SGR 8), as Jenkins writes notes. Of a str it is a str, of bytes, a bytearray or a memoryview bytes."""
     if shown is not False or lines or urls or no_hidden:
-        from .log import html_by  # (the library of the screen is loaded where it is wanted)
+        from .log import html_by, written  # (the library of the screen is loaded where it is wanted)
 
-        return html_by(text, styling, shown, lines=lines, urls=urls, no_hidden=no_hidden)
+        return written(text, html_by(styling, shown, lines=lines, urls=urls, no_hidden=no_hidden))
     if styling is BOTH:
         short, number = OF_BOTH(text), 0  # (sooner than to look for it)
     else:

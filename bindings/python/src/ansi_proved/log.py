@@ -4,7 +4,8 @@ addresses as links."""
 import ctypes
 
 from .html import number_of
-from .library import address_of, bytes_of, function, pieces_of, whole_of
+from .library import Room, Shared, address_of, bytes_of, decoded, function, pieces_of, whole_of, whole_text
+from .lines import Lines
 from .screen import LIBRARY, check_size
 
 TEXT, SAFE, HTML = range(3)
@@ -46,14 +47,16 @@ class Log:
             if not _feed(self._at, start + at, min(PIECE, count - at)):
                 raise MemoryError(NO_MEMORY)
 
-    def end(self):
+    def end(self, made=bytes):
+        """What is written of all that came, made of memory."""
         if not _end(self._at):
             raise MemoryError(NO_MEMORY)
-        length, none = _SIZE(), ctypes.create_string_buffer(1)
-        _text(self._at, ctypes.addressof(none), 0, ctypes.addressof(length))
-        room = ctypes.create_string_buffer(max(1, length.value))
-        _text(self._at, ctypes.addressof(room), length.value, ctypes.addressof(length))
-        return room.raw[: length.value]
+        length, room = _SIZE(), Room(1)
+        _text(self._at, room.address, 0, ctypes.addressof(length))
+        if length.value > room.size:
+            room = Room(length.value)
+        _text(self._at, room.address, length.value, ctypes.addressof(length))
+        return made(room.view[: length.value])
 
     def __enter__(self):
         return self
@@ -71,12 +74,60 @@ def options_of(columns, rows, form, styling=0, **more):
     return Options(columns, rows, form, styling, **{name: 1 for name, is_asked in more.items() if is_asked})
 
 
-def _whole(text, options):
-    stream, is_str = whole_of(text)
+class Stripped:
+    """A text that is stripped already, whose lines Lines takes."""
+
+    def texts(self, piece):
+        yield piece
+
+    def ends(self):
+        return iter(())
+
+
+def _written(pieces, options, lf=False):
+    """What is written of pieces, each with whether it is a str: a str where the last one is one, or where there is none, and bytes else."""
+    is_str = True
     with Log(options) as log:
-        log.feed(stream)
-        found = log.end()
-    return found.decode() if is_str else found
+        for piece, is_str in pieces:
+            log.feed(piece)
+        found = log.end(decoded if is_str and not lf else bytes)
+    return whole_text(Lines(Stripped()), found, is_str) if lf else found
+
+
+def _pieces(stream):
+    """The pieces of a stream, each with whether it is a str."""
+    return ((bytes_of(piece), isinstance(piece, str)) for piece in pieces_of(stream))
+
+
+def _at_the_end(*given):
+    found = _written(*given)
+    if found:
+        yield found
+
+
+def written(text, options, lf=False):
+    """What is written of a log: of a str a str, of bytes, a bytearray or a memoryview bytes. With lf it has no carriage return right
+    before a line feed."""
+    return _written([whole_of(text)], options, lf)
+
+
+def written_of(stream, options, lf=False):
+    """Gives the same of a log that comes in pieces, at its end: in one part, or in none where it is empty."""
+    return Shared(_at_the_end(_pieces(stream), options, lf))
+
+
+def unhidden(safe):
+    """The options for text without what a log hides, as `ansi2text --no-hidden` writes it: no screen shows it."""
+    return options_of(None, None, SAFE if safe else TEXT, no_hidden=True, no_screen=True)
+
+
+def html_by(styling, size, **more):
+    """The options for HTML as `ansi2html --fragment` writes it, in lines, with addresses as links, without hidden text; where size is not
+    False, of what a screen showed: of this size, or of that of the recording, where it is True."""
+    if not isinstance(size, bool) and not (isinstance(size, (tuple, list)) and len(size) == 2):
+        raise TypeError("shown is True, or the columns and rows of a screen, and not %r" % (size,))
+    columns, rows = (None, None) if isinstance(size, bool) else size
+    return options_of(columns, rows, HTML, number_of(styling), no_screen=size is False, **more)
 
 
 def shown(text, columns=None, rows=None, *, safe=False, no_hidden=False):
@@ -91,31 +142,9 @@ def shown(text, columns=None, rows=None, *, safe=False, no_hidden=False):
     showed, unless it still shows at the end: then the main screen comes first. Of a str it is a str, of bytes, a bytearray or a
     memoryview bytes.
     """
-    return _whole(text, options_of(columns, rows, SAFE if safe else TEXT, no_hidden=no_hidden))
+    return written(text, options_of(columns, rows, SAFE if safe else TEXT, no_hidden=no_hidden))
 
 
 def shown_of(stream, columns=None, rows=None, *, safe=False, no_hidden=False):
     """The same of a log that comes in pieces, as a list or a file: what pieces are, `text_of` says."""
-    return _joined(stream, options_of(columns, rows, SAFE if safe else TEXT, no_hidden=no_hidden))
-
-
-def _joined(stream, options):
-    is_str = True
-    with Log(options) as log:
-        for piece in pieces_of(stream):
-            is_str = isinstance(piece, str)
-            log.feed(bytes_of(piece))
-        found = log.end()
-    return found.decode() if is_str else found
-
-
-def unhidden(text, *, safe=False):
-    """The text of a log without what it hides, as `ansi2text --no-hidden` writes it; no screen shows it."""
-    return _whole(text, options_of(None, None, SAFE if safe else TEXT, no_hidden=True, no_screen=True))
-
-
-def html_by(text, styling, size, **more):
-    """The HTML that `ansi2html --fragment` writes of a log, in lines, with addresses as links, without hidden text; where size is not
-    False, of what a screen showed: of this size, or of that of the recording, where it is True."""
-    columns, rows = (None, None) if isinstance(size, bool) else size
-    return _whole(text, options_of(columns, rows, HTML, number_of(styling), no_screen=size is False, **more))
+    return _written(_pieces(stream), options_of(columns, rows, SAFE if safe else TEXT, no_hidden=no_hidden))

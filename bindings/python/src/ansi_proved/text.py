@@ -65,7 +65,7 @@ class Stripper:
             yield made(room.view[: self._counts.written])
 
 
-def text_of(stream, *, safe=False, lf=False):
+def text_of(stream, *, safe=False, lf=False, no_hidden=False):
     """Gives the text of a stream that comes in pieces, as a list or a file: as `strip` leaves it, with the same words.
 
         with open("log", "rb") as log:
@@ -75,8 +75,13 @@ def text_of(stream, *, safe=False, lf=False):
     A piece is bytes, a bytearray or a memoryview, and leads to bytes, each UTF-8 by itself; or a str, and leads to str. A file
     is read 64 KiB at a time: one of bytes as it has some, one of text (`open("log")`) once it has so many. The text of a piece
     is given before the next piece is asked for, but for a carriage return that comes last, where it is safe or with `lf`, and
-    where it is safe for a `<`, a `<U` or a joiner. Threads may share what this gives: each part goes to one of them.
+    where it is safe for a `<`, a `<U` or a joiner; with `no_hidden` all of it comes at the end. Threads may share what this gives:
+    each part goes to one of them.
     """
+    if no_hidden:
+        from .log import unhidden, written_of  # (the library of the screen is loaded where it is wanted)
+
+        return written_of(stream, unhidden(safe), lf and not safe)
     return safe_of(stream) if safe else Shared(parts_of(_stripper(lf), pieces_of(stream)))
 
 
@@ -122,26 +127,6 @@ def is_clean(text):
     return 2 * len(begin) > 3 * min(len(text), 4096) and CLEAN.match(text).end() == len(text)
 
 
-class Stripped:
-    """A text that is stripped already."""
-
-    def texts(self, piece):
-        yield piece
-
-    def ends(self):
-        return iter(())
-
-
-def _unhidden(text, safe, lf):
-    """The text without what is hidden; where it is not safe text, without carriage returns before line feeds, or with them."""
-    from .log import unhidden  # (the library of the screen is loaded where it is wanted)
-
-    found = unhidden(text, safe=safe)
-    if safe or not lf:
-        return found
-    return whole_text(Lines(Stripped()), found.encode() if isinstance(found, str) else found, isinstance(found, str))
-
-
 def strip(text, *, safe=False, lf=False, no_hidden=False):
     """The text of terminal output: of a str a str, of bytes, a bytearray or a memoryview bytes.
 
@@ -154,7 +139,9 @@ def strip(text, *, safe=False, lf=False, no_hidden=False):
     Jenkins writes notes.
     """
     if no_hidden:
-        return _unhidden(text, safe, lf)
+        from .log import unhidden, written  # (the library of the screen is loaded where it is wanted)
+
+        return written(text, unhidden(safe), lf and not safe)
     if safe:
         return safe_text(text)
     short = None if lf else SHORT(text)

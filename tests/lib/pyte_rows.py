@@ -58,7 +58,7 @@ def buffer_cases(pyte):
 
 
 def cursor_cases(pyte):
-    screen = fed(pyte, "abc\x1b[1;31m")
+    screen = fed(pyte, "abc\x1b[1;31m", lines=5)
     cursor = screen.cursor
     found = (cursor.x, cursor.y, cursor.hidden, cursor.attrs)
     yield "the cursor is where it is", differs(found, (3, 0, False, pyte.screens.Char(" ", "red", bold=True)))
@@ -66,11 +66,11 @@ def cursor_cases(pyte):
     yield "and goes on; a wrap is pending past the last column", differs((cursor.x, cursor.y, cursor.hidden), (10, 0, True))
     cursor.x, cursor.y, cursor.hidden = 4, 2, False
     yield "it can be moved", differs((cursor.x, cursor.y, cursor.hidden, screen.mode >= {pyte.modes.DECTCEM}), (4, 2, False, True))
-    pyte.Stream(screen).feed("\x1b[2;3r\x1b[?6h")
-    cursor.y = 1
-    yield "in origin mode too", differs(cursor.y, 1)
+    pyte.Stream(screen).feed("\x1b[2;4r\x1b[?6h")
+    cursor.y = 2
+    yield "in origin mode too", differs(cursor.y, 2)
     yield "but not past the last column", raises(ValueError, "no column 10 of 10", lambda: setattr(cursor, "x", 10))
-    yield "nor the last line", raises(ValueError, "no line 3 of 3", lambda: setattr(cursor, "y", 3))
+    yield "nor the last line", raises(ValueError, "no line 5 of 5", lambda: setattr(cursor, "y", 5))
 
 
 def mode_cases(pyte):
@@ -89,9 +89,12 @@ def mode_cases(pyte):
         kind(screen).feed(text)
         found = screen.display, modes.LNM in screen.mode
         yield "LNM goes to the first column, %s" % kind.__name__, differs(found, (["a  ", "b  ", "c  "], True))
-        screen.reset()
-        kind(screen).feed(text)
-        yield "and without it a line feed stays in its column", differs(screen.display, ["a  ", " b ", "  c"])
+        for ends in (screen.reset, lambda: screen.reset_mode(modes.LNM)):
+            ends()
+            kind(screen).feed(b"\x1bc" if kind is pyte.ByteStream else "\x1bc")
+            kind(screen).feed(text)
+            yield "and without it a line feed stays in its column", differs(screen.display, ["a  ", " b ", "  c"])
+            screen.set_mode(modes.LNM)
     screen = fed(pyte, "\x1b[2;3r\x0e")
     found = screen.margins, screen.charset, fed(pyte, "\x1b[r").margins, screen.tabstops
     yield "margins, the set and tabs", differs(found, ((1, 2), 1, None, {8}))

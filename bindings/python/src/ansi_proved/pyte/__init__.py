@@ -23,8 +23,8 @@ Not there, and an AttributeError: `resize`, DECCOLM, `alignment_display`, `savep
 DebugScreen, `Stream.escape` and its like, `use_utf8`, the module `charsets`.
 """
 
-from . import control, escape, graphics, modes
+from . import control, escape, graphics, modes, screens, streams
 from .screens import DiffScreen, HistoryScreen, Screen
 from .streams import ByteStream, Stream
 
-__all__ = ["ByteStream", "DiffScreen", "HistoryScreen", "Screen", "Stream"]
+__all__ = ["ByteStream", "DiffScreen", "HistoryScreen", "Screen", "Stream", "control", "escape", "graphics", "modes", "screens", "streams"]

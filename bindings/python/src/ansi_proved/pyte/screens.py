@@ -89,7 +89,8 @@ class Buffer(Mapping):
         self._screen = screen
 
     def __getitem__(self, line):
-        return self._screen._row(line) if line in self else Row([])
+        rows = self._screen._rows
+        return rows[line] if line in rows else self._screen._row(line)
 
     def __contains__(self, line):
         return line in range(len(self))
@@ -224,10 +225,12 @@ class Screen:
         return len(self._proved.history)
 
     def _row(self, line):
-        rows = self._rows  # (another one, once another thread has fed the screen)
-        if line not in rows:
-            rows[line] = Row(_chars_of(self._proved, self._first() + line))
-        return rows[line]
+        """Reads a row, and keeps it until the screen is fed; outside of the screen it is blank."""
+        if not 0 <= line < self.lines:
+            return Row([])
+        rows = self._rows  # (it is another one, once another thread has fed the screen)
+        rows[line] = row = Row(_chars_of(self._proved, self._first() + line))
+        return row
 
     @property
     def display(self):

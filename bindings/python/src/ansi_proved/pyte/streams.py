@@ -8,7 +8,7 @@ _CALLED = """
     cursor_to_column cursor_to_line cursor_up cursor_up1 debug define_charset delete_characters delete_lines draw erase_characters
     erase_in_display erase_in_line index insert_characters insert_lines linefeed report_device_attributes report_device_status reset
     reset_mode restore_cursor reverse_index save_cursor select_graphic_rendition set_icon_name set_margins set_mode set_tab_stop set_title
-    shift_in shift_out tab
+    shift_in shift_out tab before_event after_event
 """.split()
 
 

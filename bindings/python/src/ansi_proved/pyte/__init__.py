@@ -16,7 +16,7 @@ What differs beside that:
   more than a blank; others give the default.
 - LNM is set and reset by `set_mode` and `reset_mode` alone, and no stream (CSI 20 h) sets it.
 - Bright colours are "brightred" and so on, as since pyte 0.8.1, and a Char has `blink`. DECSCNM is told by `mode`, and reverses no Char.
-- ED 3 does nothing. Of the rows that leave at the bottom (RI) none is in the history. One place is saved (DECSC), and not a stack of them.
+- What is erased has the background of what comes next, and nothing else of its style. ED 3 does nothing. Of the rows that leave at the bottom (RI) none is in the history. One place is saved (DECSC), and not a stack of them.
 - A screen has 2 to 1000 columns and 1 to 1000 lines. Input is UTF-8.
 
 Not there, and an AttributeError: `resize`, DECCOLM, `alignment_display`, `savepoints`, `icon_name`, `bell`, `debug`, `g0_charset`, `before_event`,

@@ -357,7 +357,7 @@ class Screen:
         self._sequence("n", mode)
 
     def report_device_attributes(self, mode=0):
-        """Answers what it is, a VT420 as xterm says."""
+        """Answers what it is: a VT220 with colours."""
         self._sequence("c", mode)
 
     insert_characters, delete_characters, erase_characters = map(_counted, "@PX")

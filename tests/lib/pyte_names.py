@@ -41,5 +41,5 @@ def cases(read):
     wrong = sorted(told ^ (set(PUBLIC) - has))
     yield "docs/MOVING.md names what of pyte is not there", wrong and "not so of %s" % ", ".join(wrong)
     said = ast.get_docstring(ast.parse(read(PACKAGE + "/__init__.py"))).rpartition("Not there")[2]
-    missing = [it for it in set(re.findall(r"`(\w+)`", said)) if it not in told and it != "charsets"]
-    yield "so does the module", missing and "not of %s" % ", ".join(missing)
+    wrong = set(re.findall(r"`(\w+)`", said)) & set(PUBLIC) - told
+    yield "so does the module", wrong and "not of %s" % ", ".join(sorted(wrong))

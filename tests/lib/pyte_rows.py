@@ -100,11 +100,15 @@ def mode_cases(pyte):
     yield "margins, the set and tabs", differs(found, ((1, 2), 1, None, {8}))
 
 
+# what is fed to four lines, and which of them can have changed after it
+WRITTEN = {"a": {0}, "\x1b[4;9Hbcd": {0, 1, 2, 3}, "\x1b[3;4Hx\x1b[B\x1b[K": {2, 3}, "\x1b[2;3r\x1b[3H\n": {1, 2}, "\x1b[r": set()}
+
+
 def dirty_cases(pyte):
     screen = fed(pyte, "", lines=4)
     dirty = screen.dirty
     yield "at first all lines are dirty", differs(dirty, {0, 1, 2, 3})
-    for text, wanted in {"a": {0}, "\x1b[4;9Hbcd": {3, 2, 1, 0}, "\x1b[3;4Hx\x1b[B\x1b[K": {2, 3}, "\x1b[2;3r\x1b[3H\n": {1, 2}, "\x1b[r": set()}.items():
+    for text, wanted in WRITTEN.items():
         screen.dirty.clear()
         pyte.Stream(screen).feed(text)
         yield "dirty lines after %r" % text, differs(screen.dirty, wanted)

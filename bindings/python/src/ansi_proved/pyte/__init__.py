@@ -14,13 +14,15 @@ What differs beside that:
   sequence that is cut belongs to the screen, so a method that is called in the midst of one breaks it off.
 - `buffer` and its rows are read, and not written. A row is as it was when it was asked for, and has the columns up to the last that shows
   more than a blank; others give the default.
-- LNM is set and reset by `set_mode` and `reset_mode` alone, and no stream (CSI 20 h) sets it.
+- LNM is set by `set_mode` alone, and ends by `reset_mode` and `reset`: no stream sets or ends it (CSI 20 h, RIS).
 - Bright colours are "brightred" and so on, as since pyte 0.8.1, and a Char has `blink`. DECSCNM is told by `mode`, and reverses no Char.
-- What is erased has the background of what comes next, and nothing else of its style. ED 3 does nothing. Of the rows that leave at the bottom (RI) none is in the history. One place is saved (DECSC), and not a stack of them.
-- A screen has 2 to 1000 columns and 1 to 1000 lines. Input is UTF-8.
+- What is erased has the background of what comes next, and nothing else of its style. ED 3 does nothing.
+- The history has what scrolled off at the top of the main screen: nothing of RI, of margins that begin lower or of the alternate screen.
+- One place is saved (DECSC), and not a stack of them.
+- A screen has 2 to 1000 columns and 1 to 1000 lines. Input is UTF-8; C1 controls, as bytes or as characters, do nothing.
 
 Not there, and an AttributeError: `resize`, DECCOLM, `alignment_display`, `savepoints`, `icon_name`, `bell`, `debug`, `g0_charset`, `before_event`,
-DebugScreen, `Stream.escape` and its like, `use_utf8`, the module `charsets`.
+DebugScreen, `Stream.escape` and its like, `strict` of a stream, `use_utf8`, the module `charsets`.
 """
 
 from . import control, escape, graphics, modes, screens, streams

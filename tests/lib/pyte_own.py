@@ -17,35 +17,33 @@ SOURCES = os.environ.get("PYTE", "/usr/local/src/pyte-0.8.0")
 MODULES = ["test_screen", "test_diff", "test_history"]
 PARTS = ["control", "graphics", "modes", "screens", "streams"]
 
-# why a test fails, by its module and its name
-SIZE = "a screen keeps its size"
-LEAST = "a screen has two columns or more"
-ESCAPES = "a stream has no table of sequences: pages are turned by methods"
-ALIGNMENT = "DECALN is not there"
+# the line at which a test fails, in part, and why, by its module and its name
+RESIZED = "screen.resize(", "a screen keeps its size"
+ESCAPES = "pyte.Stream.escape", "a stream has no table of sequences: pages are turned by methods"
 ERASED = "ED 3 does nothing"
 DIFFERENCES = {
-    "test_screen.test_alignment_display": ALIGNMENT,
-    "test_screen.test_colors_aixterm": "94 is brightblue, as since pyte 0.8.1; before it was blue and bold",
-    "test_screen.test_cursor_position": "in origin mode CUP past the lower margin stops there, as in xterm; there it does nothing",
-    "test_screen.test_draw_cp437": "input is UTF-8",
-    "test_screen.test_draw_utf8": LEAST,
-    "test_screen.test_draw_width0_decawm_off": "without autowrap a wide character without room is not shown, as in xterm",
-    "test_screen.test_draw_width2_line_end": "a wide character without room goes to the next row, as in xterm; there it is cut",
-    "test_screen.test_report_device_attributes": "it is xterm, and answers as that",
-    "test_screen.test_resize": SIZE,
-    "test_screen.test_resize_same": SIZE,
-    "test_screen.test_restore_cursor_out_of_bounds": SIZE,
-    "test_screen.test_save_cursor": "one place is saved, as in xterm; there they are stacked",
-    "test_screen.test_screen_set_icon_name_title": "the title of an icon is not kept",
-    "test_screen.test_set_mode": "DECCOLM is not there: " + SIZE,
-    "test_diff.test_mark_whole_screen": SIZE,
-    "test_diff.test_modes": "DECSCNM changes no cell, and mode tells it",
-    "test_diff.test_erase_in_display": ERASED,
+    "test_screen.test_alignment_display": ("screen.alignment_display()", "DECALN is not there"),
+    "test_screen.test_colors_aixterm": ('fg == "blue"', "94 is brightblue, as since pyte 0.8.1; before it was blue and bold"),
+    "test_screen.test_cursor_position": ("line 1407,", "in origin mode CUP past the lower margin stops there, as in xterm; there it does nothing"),
+    "test_screen.test_draw_cp437": ('define_charset("U"', "input is UTF-8"),
+    "test_screen.test_draw_utf8": ("pyte.Screen(1, 1)", "a screen has two columns or more"),
+    "test_screen.test_draw_width0_decawm_off": ("line 425,", "without autowrap a wide character without room is not shown, as in xterm"),
+    "test_screen.test_draw_width2_line_end": ("line 375,", "a wide character without room goes to the next row, as in xterm; there it is cut"),
+    "test_screen.test_report_device_attributes": ('CSI + "?6c"', "it is a VT220 with colours"),
+    "test_screen.test_resize": RESIZED,
+    "test_screen.test_resize_same": RESIZED,
+    "test_screen.test_restore_cursor_out_of_bounds": RESIZED,
+    "test_screen.test_save_cursor": ("line 732,", "one place is saved, as in xterm; there they are stacked"),
+    "test_screen.test_screen_set_icon_name_title": ("set_icon_name", "the title of an icon is not kept"),
+    "test_screen.test_set_mode": ("mo.DECCOLM", "DECCOLM is not there: a screen keeps its size"),
+    "test_diff.test_mark_whole_screen": RESIZED,
+    "test_diff.test_modes": ("line 60,", "DECSCNM changes no cell, and mode tells it"),
+    "test_diff.test_erase_in_display": ("line 127,", ERASED),
     "test_history.test_cursor_is_hidden": ESCAPES,
     "test_history.test_draw": ESCAPES,
     "test_history.test_ensure_width": ESCAPES,
-    "test_history.test_erase_in_display": ERASED,
-    "test_history.test_reverse_index": "rows that leave at the bottom are not kept, as in xterm",
+    "test_history.test_erase_in_display": ("line 538,", ERASED),
+    "test_history.test_reverse_index": ("line 67,", "rows that leave at the bottom are not kept, as in xterm"),
 }
 
 
@@ -76,7 +74,7 @@ def failed(test):
 
 
 def cases(pyte):
-    """Each test passes, or is known to differ and fails."""
+    """Each test passes, or is known to differ and fails there."""
     if not os.path.exists(SOURCES + "/tests"):
         yield needs.left_out("pyte's tests", "there is no %s" % SOURCES)
         return
@@ -90,8 +88,11 @@ def cases(pyte):
         for title, test in inspect.getmembers(module, inspect.isfunction):
             if not title.startswith("test_") or hasattr(test, "fails"):
                 continue
-            why, known = failed(test), DIFFERENCES.get("%s.%s" % (name, title))
-            unknown.discard("%s.%s" % (name, title))
-            told = "%s.%s" % (name, title) + (" differs: " + known if known else "")
-            yield told, ("it passes" if not why else None) if known else why
+            whole = "%s.%s" % (name, title)
+            why, (place, reason) = failed(test), DIFFERENCES.get(whole, ("", ""))
+            unknown.discard(whole)
+            if reason:
+                yield "%s differs: %s" % (whole, reason), None if why and place in why else "it fails otherwise: %s" % why
+            else:
+                yield whole, why
     yield "each difference is of a test that is there", "not so of %s" % sorted(unknown) if unknown else None

@@ -8,7 +8,7 @@ import shutil
 import tempfile
 
 from lib import needs
-from lib.library_shared import PYTHON, ROOT, failure, run
+from lib.library_shared import PATIENCE, PYTHON, ROOT, failure, run
 from lib.pyte_own import SOURCES
 
 IMPORT = re.compile(r"(?m)^(\s*)(import|from) pyte\b(\.\w+)?( import .*)?$")
@@ -47,15 +47,17 @@ def changed(folder, to):
 def python(folder, *words, given=b"", **known):
     """Runs Debian's Python in a folder, without what Python writes there."""
     known = {**os.environ, "PYTHONPATH": "%s:%s" % (folder, PYTHON), "PYTHONDONTWRITEBYTECODE": "1", **known}
-    return run([INTERPRETER, *words], given, cwd=folder, env=known)
+    return run([INTERPRETER, *words], given, patience=10 * PATIENCE, cwd=folder, env=known)
 
 
-def both(name, folders, *words, before=b"", **known):
+def both(name, folders, *words, before=b"", tries=1, **known):
     """A case: a command does well, and with ansi_proved.pyte it writes what it writes with pyte, after what is to come before that."""
-    theirs, ours = (python(folder, *words, **known) for folder in folders)
-    why = failure(theirs) or failure(ours)
-    is_so = theirs.stdout and before + theirs.stdout == ours.stdout
-    return name, why or (None if is_so else "it writes %r, and not %r" % (ours.stdout[:500], theirs.stdout[:500]))
+    for _ in range(tries):
+        theirs, ours = (python(folder, *words, **known) for folder in folders)
+        why = failure(theirs) or failure(ours)
+        if not why and theirs.stdout.strip() and before + theirs.stdout == ours.stdout:
+            return name, None
+    return name, why or "it writes %r, and not %r" % (ours.stdout[:500], theirs.stdout[:500])
 
 
 def cast(name):
@@ -123,7 +125,8 @@ def example_cases(room, folders):
         file.writelines("line %d, \u00e4\u6f22\t|\n" % it for it in range(100))
     for words in (["/usr/bin/less", room + "/text"], ["/usr/bin/vim", "-u", "NONE", "-N", room + "/text"]):
         if os.path.exists(words[0]):
-            yield both("pyte's nanoterm.py: %s" % " ".join(map(os.path.basename, words)), folders, "nanoterm.py", *words)
+            # (it ends where a program has written nothing for a second, as one that has no turn yet)
+            yield both("pyte's nanoterm.py: %s" % " ".join(map(os.path.basename, words)), folders, "nanoterm.py", *words, tries=5)
         else:
             yield needs.left_out(words[0])
 

@@ -1,5 +1,7 @@
 """Rows worked by hand for ansi_proved.pyte: what pyte's documents say of a screen, and xterm of a stream. Cases of tests/pyte."""
 
+import copy
+
 
 def differs(found, wanted):
     return None if found == wanted else "it is %r, and not %r" % (found, wanted)
@@ -51,10 +53,14 @@ def buffer_cases(pyte):
     pyte.Stream(screen).feed("\x1b[Hx")
     yield "a row is as it was", differs([before[0].data, buffer[0][0].data, before == buffer[0]], ["a", "x", False])
 
+    other = copy.deepcopy(screen)
+    pyte.Stream(other).feed("y")
+    yield "a copy goes on by itself", differs((screen.buffer[0][1].data, other.buffer[0][1].data, other.buffer[2]), ("b", "y", buffer[2]))
+
     def write():
         screen.buffer[0][0] = blank
 
-    yield "a row is not written", raises(TypeError, "assignment", write)
+    yield "a row is not written", raises(TypeError, "read, and not written", write)
 
 
 def cursor_cases(pyte):

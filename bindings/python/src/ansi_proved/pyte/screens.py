@@ -53,33 +53,33 @@ _CHARS = proved.Kept(_char_of_bytes)
 
 
 def _chars_of(screen, number):
-    """The Chars of a row of the library's screen, counted from the oldest that left and is kept."""
+    """The Chars of a row of the library's screen: of those that left it, the last one is -1."""
+    if number >= 0:
+        return proved.cells_of(screen._row_by(proved._row, number), _CHARS)
     with screen._lock:
-        kept = len(screen.history)
-        by_call, row = (proved._history_row, number) if number < kept else (proved._row, number - kept)
-        return proved.cells_of(screen._row_by(by_call, row), _CHARS)
+        return proved.cells_of(screen._row_by(proved._history_row, len(screen.history) + number), _CHARS)
 
 
-class Row(Mapping):
+def _refuse(*_, **__):
+    raise TypeError("a row is read, and not written")
+
+
+class Row(dict):
     """The Chars of a row, by their columns, as they were when it was asked for: up to the last that is no blank. Others are the default."""
 
     def __init__(self, chars):
         past = len(chars)
         while past and chars[past - 1] == _BLANK:
             past -= 1
-        self._chars = chars[:past]
+        super().__init__(enumerate(chars[:past]))
 
-    def __getitem__(self, column):
-        return self._chars[column] if 0 <= column < len(self._chars) else _BLANK
+    def __missing__(self, _):
+        return _BLANK
 
-    def __contains__(self, column):
-        return column in range(len(self._chars))
+    def __reduce__(self):
+        return Row, (list(self.values()),)
 
-    def __iter__(self):
-        return iter(range(len(self._chars)))
-
-    def __len__(self):
-        return len(self._chars)
+    __setitem__ = __delitem__ = __ior__ = clear = pop = popitem = setdefault = update = _refuse
 
 
 class Buffer(Mapping):
@@ -103,16 +103,16 @@ class Buffer(Mapping):
 
 
 class Lines(Sequence):
-    """Rows above a page or below it, the oldest first: so many, from one of all that the library has."""
+    """Rows above a page or below it, the oldest first: those of a range of numbers, as `_chars_of` has them."""
 
-    def __init__(self, screen, first, count):
-        self._screen, self._first, self._count = screen, first, count
+    def __init__(self, screen, numbers):
+        self._screen, self._numbers = screen, numbers
 
     def __len__(self):
-        return self._count
+        return len(self._numbers)
 
     def __getitem__(self, number):
-        found = range(self._first, self._first + self._count)[number]
+        found = self._numbers[number]
         if isinstance(number, slice):
             return [Row(_chars_of(self._screen, it)) for it in found]
         return Row(_chars_of(self._screen, found))
@@ -196,6 +196,7 @@ class Screen:
     def _begin(self, columns, lines, history):
         self._proved = proved.Screen(columns, lines, history, keep_erased=False)
         self._rows, self._dirty, self._returns = {}, set(), False
+        self._above = 0  # how many lines the page that shows is above the end
 
     columns = property(lambda self: self._proved.columns, doc="How many columns it has.")
     lines = property(lambda self: self._proved.rows, doc="How many lines it has.")
@@ -218,18 +219,13 @@ class Screen:
         """Makes it a new screen of its size, at the beginning of a stream, without a history."""
         self._proved.reset()
         self._rows, self._returns = {}, False
-        self._dirty.update(range(self.lines))
-
-    def _first(self):
-        """The number of the first line that shows, counted from the oldest that left and is kept."""
-        return len(self._proved.history)
 
     def _row(self, line):
         """Reads a row, and keeps it until the screen is fed; outside of the screen it is blank."""
         if not 0 <= line < self.lines:
             return Row([])
         rows = self._rows  # (it is another one, once another thread has fed the screen)
-        rows[line] = row = Row(_chars_of(self._proved, self._first() + line))
+        rows[line] = row = Row(_chars_of(self._proved, line - self._above))
         return row
 
     @property
@@ -381,14 +377,14 @@ class HistoryScreen(Screen):
     """
 
     def __init__(self, columns, lines, history=100, ratio=0.5):
-        self._size, self._ratio, self._above = history, float(ratio), 0
+        self._size, self._ratio = history, float(ratio)
         self._begin(columns, lines, history)
 
     @property
     def history(self):
         """The lines above and below the page that shows, and where it stands."""
-        first = self._first()
-        top, bottom = Lines(self._proved, 0, first), Lines(self._proved, first + self.lines, self._above)
+        top = Lines(self._proved, range(-len(self._proved.history), -self._above))
+        bottom = Lines(self._proved, range(self.lines - self._above, self.lines))
         return History(top, bottom, self._ratio, self._size, self._size - self._above)
 
     @property
@@ -396,11 +392,8 @@ class HistoryScreen(Screen):
         """The text of each line of the page that shows, with the blanks at its end."""
         if not self._above:
             return super().display
-        first = self._first()
-        return ["".join(it.data for it in _chars_of(self._proved, first + line)) for line in range(self.lines)]
-
-    def _first(self):
-        return super()._first() - self._above
+        rows = (_chars_of(self._proved, line - self._above) for line in range(self.lines))
+        return ["".join(it.data for it in row) for row in rows]
 
     def _hides_cursor(self):
         return self._above > 0 or super()._hides_cursor()

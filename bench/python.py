@@ -15,7 +15,7 @@ with nothing read of what they write. Beside the times stand those for one event
 
 With --screens it is pyte's own benchmark, of `ansi_proved.pyte` beside pyte: a stream feeds a screen of 80x24, whole and again and again, by
 corpora and recordings. Then what one takes that reads the screen after each feed of 100 bytes: by `display`, by each Char of `buffer`,
-and by those of the lines that are dirty.
+and by those of the lines that are dirty. These are seconds of a processor.
 
 With --short it is what a call takes of a str of 20 characters, in microseconds: a clean one, and one with two
 colours.
@@ -45,14 +45,14 @@ OF_STR = re.compile(EXPRESSION, re.ASCII)
 OF_BYTES = re.compile(EXPRESSION.encode("ascii"))
 
 
-def least(actions, rounds):
+def least(actions, rounds, clock=time.perf_counter):
     """The least time of each, by turns."""
     took = [[] for _ in actions]
     for _ in range(rounds):
         for action, times in zip(actions, took):
-            start = time.perf_counter()
+            start = clock()
             result = action()
-            times.append(time.perf_counter() - start)
+            times.append(clock() - start)
             del result
     return [min(times) for times in took]
 
@@ -183,13 +183,13 @@ def time_screens(options):
         values = []
         for kind in ("Screen", "HistoryScreen"):
             fed = [module.Stream(getattr(module, kind)(80, 24)) for module in (ours, pyte)]
-            times = least([lambda it=it: it.feed(text) for it in fed], options.rounds)
+            times = least([lambda it=it: it.feed(text) for it in fed], options.rounds, time.process_time)
             values += [*times, times[1] / times[0]]
         print(row % (name, len(text), *values), flush=True)
     print("%-20s  %8s  %8s  %6s" % ("seconds, read", "ours", "pyte", "ratio"))
     text = dict(recordings())["pip"]
     for name, read in READINGS.items():
-        times = least([lambda module=module: feed_and_read(module, text, read) for module in (ours, pyte)], options.rounds)
+        times = least([lambda module=module: feed_and_read(module, text, read) for module in (ours, pyte)], options.rounds, time.process_time)
         print("%-20s  %8.5f  %8.5f  %6.1f" % (name, *times, times[1] / times[0]), flush=True)
 
 

@@ -8,12 +8,12 @@ import shutil
 import tempfile
 
 from lib import needs
-from lib.library_shared import PATIENCE, PYTHON, ROOT, failure, run
+from lib.library_shared import PATIENCE, PYTHON, failure, run
 from lib.pyte_own import SOURCES
+from lib.pyte_rows import RECORDINGS
 
 IMPORT = re.compile(r"(?m)^(\s*)(import|from) pyte\b(\.\w+)?( import .*)?$")
 INTERPRETER = "/usr/bin/python3"  # Debian's, which has pyte
-RECORDINGS = "%s/tests/screen/recordings" % ROOT
 # a call of thefuck's, as `fuck` makes it of what a shell logged
 READ_LOG = "import sys\nfrom thefuck.output_readers.read_log import get_output\nprint(get_output(sys.argv[1]))"
 SEEDED = "import random, runpy\nrandom.seed(1)\nrunpy.run_path('history.py', run_name='__main__')"

@@ -1,6 +1,11 @@
 """Rows worked by hand for ansi_proved.pyte: what pyte's documents say of a screen, and xterm of a stream. Cases of tests/pyte."""
 
 import copy
+import os
+
+from lib.library_shared import ROOT
+
+RECORDINGS = "%s/tests/screen/recordings" % ROOT
 
 
 def differs(found, wanted):
@@ -124,6 +129,23 @@ def dirty_cases(pyte):
     yield "a reset makes all dirty", differs(screen.dirty, {0, 1, 2, 3})
 
 
+def recording_cases(pyte):
+    """After each part of what programs wrote: rows are those that show, and lines that show otherwise than before are dirty."""
+    for name in sorted(os.listdir(RECORDINGS)):
+        with open("%s/%s" % (RECORDINGS, name), encoding="utf-8", newline="") as file:
+            text = file.read()
+        screen, wrong, before = pyte.Screen(80, 24), [], 24 * [80 * " "]
+        stream = pyte.Stream(screen)
+        for at in range(0, len(text), 100):
+            stream.feed(text[at : at + 100])
+            found = ["".join(row[column].data for column in range(80)) for row in screen.buffer.values()]
+            others = {line for line in range(24) if screen.display[line] != before[line]}
+            wrong += [at] if found != screen.display or others - screen.dirty else []
+            screen.dirty.clear()
+            before = screen.display
+        yield "%s: rows and dirty lines along it" % name, "not at %s" % wrong if wrong else None
+
+
 def page_cases(pyte):
     """A history of ten lines over a screen of four: half a page is two."""
     screen = pyte.HistoryScreen(3, 4, history=10)
@@ -207,5 +229,5 @@ def method_cases(pyte):
 
 
 def cases(pyte):
-    for part in (char_cases, buffer_cases, cursor_cases, mode_cases, dirty_cases, page_cases, stream_cases, method_cases):
+    for part in (char_cases, buffer_cases, cursor_cases, mode_cases, dirty_cases, recording_cases, page_cases, stream_cases, method_cases):
         yield from part(pyte)

@@ -89,8 +89,7 @@ class Buffer(Mapping):
         self._screen = screen
 
     def __getitem__(self, line):
-        rows = self._screen._rows
-        return rows[line] if line in rows else self._screen._row(line)
+        return self._screen._row(line)
 
     def __contains__(self, line):
         return line in range(len(self))
@@ -195,7 +194,7 @@ class Screen:
 
     def _begin(self, columns, lines, history):
         self._proved = proved.Screen(columns, lines, history, keep_erased=False)
-        self._rows, self._dirty, self._returns = {}, set(), False
+        self._rows, self._dirty, self._returns, self._is_noted = {}, set(), False, False
         self._above = 0  # how many lines the page that shows is above the end
 
     columns = property(lambda self: self._proved.columns, doc="How many columns it has.")
@@ -207,7 +206,7 @@ class Screen:
         if self._returns:
             data = _LINE_FEED[0].sub(r"\r\g<0>", data) if isinstance(data, str) else _LINE_FEED[1].sub(rb"\r\g<0>", data)
         self._proved.feed(data)
-        self._rows = {}
+        self._is_noted = False
         answers = self._proved.answers()
         if answers:
             self.write_process_input(answers.decode())
@@ -218,14 +217,26 @@ class Screen:
     def reset(self):
         """Makes it a new screen of its size, at the beginning of a stream, without a history."""
         self._proved.reset()
-        self._rows, self._returns = {}, False
+        self._returns, self._is_noted = False, False
+
+    def _note(self):
+        """Takes up what can have changed: these lines are dirty, and their rows are read anew."""
+        with self._proved._lock:
+            self._is_noted = True
+            for line in [it.row for it in self._proved.changes()]:
+                self._dirty.add(line)
+                self._rows.pop(line, None)
 
     def _row(self, line):
-        """Reads a row, and keeps it until the screen is fed; outside of the screen it is blank."""
+        """Reads a row, and keeps it as long as nothing has changed in it; outside of the screen it is blank."""
+        if not self._is_noted:
+            self._note()
+        if line in self._rows:
+            return self._rows[line]
         if not 0 <= line < self.lines:
             return Row([])
-        rows = self._rows  # (it is another one, once another thread has fed the screen)
-        rows[line] = row = Row(_chars_of(self._proved, line - self._above))
+        with self._proved._lock:
+            row = self._rows[line] = Row(_chars_of(self._proved, line - self._above))
         return row
 
     @property
@@ -246,7 +257,7 @@ class Screen:
     @property
     def dirty(self):
         """The lines that can have changed since they were taken out of this set, which is the same each time."""
-        self._dirty.update(it.row for it in self._proved.changes())
+        self._note()
         return self._dirty
 
     @property

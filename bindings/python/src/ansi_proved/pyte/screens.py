@@ -220,7 +220,9 @@ class Screen:
         self._returns, self._is_noted = False, False
 
     def _note(self):
-        """Takes up what can have changed: these lines are dirty, and their rows are read anew."""
+        """Takes up what can have changed since it did so last: these lines are dirty, and their rows are read anew."""
+        if self._is_noted:
+            return
         with self._proved._lock:
             self._is_noted = True
             for line in [it.row for it in self._proved.changes()]:
@@ -229,8 +231,7 @@ class Screen:
 
     def _row(self, line):
         """Reads a row, and keeps it as long as nothing has changed in it; outside of the screen it is blank."""
-        if not self._is_noted:
-            self._note()
+        self._note()
         if line in self._rows:
             return self._rows[line]
         if not 0 <= line < self.lines:

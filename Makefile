@@ -21,8 +21,8 @@ PROGRAMS = ansi2text ansi2html ansi2screen ansi2svg parselog
 # those that shells complete the words of
 COMPLETED = $(PROGRAMS)
 # the scripts of tests/
-TESTS = asked browser cells classes contrast costs dist documents install library library_python links packages pictures programs screen_library \
-    screen_twin vectors
+TESTS = asked browser cells classes contrast costs dist documents install library library_python links packages pictures programs pyte \
+    screen_library screen_twin vectors
 # those that want what is proved: they count instructions, or make what is handed out
 PROVED = costs cells dist
 # what the library does: each has a header and a manual page of its own
@@ -47,7 +47,7 @@ RULES = $(PACKAGE)/classes.css
 EXTENSION = $(PACKAGE)/_events.abi3.so
 PYTHON_HEADERS := $(shell $(PYTHON) -c 'import os, sysconfig as it; at = it.get_path("include"); \
     print(at if os.path.exists(at + "/Python.h") and not it.get_config_var("Py_GIL_DISABLED") else "")' 2>/dev/null)
-FILES_OF_PACKAGE = $(notdir $(wildcard $(addprefix $(PACKAGE)/,*.py *.pyi py.typed *.html)) $(RULES))
+FILES_OF_PACKAGE = $(patsubst $(PACKAGE)/%,%,$(wildcard $(addprefix $(PACKAGE)/,*.py *.pyi pyte/*.py pyte/*.pyi py.typed *.html)) $(RULES))
 # the programs that a wheel puts on the path
 OF_WHEEL = $(PROGRAMS:%=bindings/python/programs/%)
 # the oldest C library that the wheel is for, which the programs ask for
@@ -217,7 +217,7 @@ install-native: programs $(SHARED) $(SCREEN_SHARED)
 	chmod 644 $(LIB)/pkgconfig/ansi.pc $(LIB)/pkgconfig/ansi_screen.pc
 
 install: all install-native
-	$(INSTALL) -d $(MODULES)
+	$(INSTALL) -d $(MODULES)/pyte
 	for name in $(FILES_OF_PACKAGE); do $(INSTALL) -m 644 $(PACKAGE)/$$name $(MODULES)/$$name || exit 1; done
 	for name in ansi ansi_screen; do \
 	    ln -sf "$$(realpath --relative-to=$(MODULES) $(LIB))/lib$$name.so.$(MAJOR)" $(MODULES)/lib$$name.so || exit 1; \
@@ -240,7 +240,7 @@ uninstall:
 	    rm -f $(LIB)/lib$$name.so.$(VERSION); \
 	done
 	for name in $(FILES_OF_PACKAGE) $(notdir $(LOADED) $(SCREEN_LOADED) $(EXTENSION)); do rm -f $(MODULES)/$$name; done
-	rm -rf $(MODULES)/__pycache__
-	if [ -d $(MODULES) ]; then rmdir --ignore-fail-on-non-empty $(MODULES); fi
+	rm -rf $(MODULES)/__pycache__ $(MODULES)/pyte/__pycache__
+	for folder in $(MODULES)/pyte $(MODULES); do if [ -d $$folder ]; then rmdir --ignore-fail-on-non-empty $$folder; fi; done
 
 .PHONY: all programs library wheel made-wheel dist test check mutants install install-native uninstall

@@ -1,7 +1,7 @@
 #!/usr/bin/env python3
 """Times the Python package on the five kinds of streams, beside what Python does without it.
 
-Usage: bench/python.py [--events | --short] [--bytes N] [--rounds N]
+Usage: bench/python.py [--events | --screens | --short] [--bytes N] [--rounds N]
 
 `make library` must have built the shared library, or ANSI_LIBRARY names it. `strip` is given a str and bytes,
 beside the expression of strip-ansi over the same, in one `re.sub`; `to_html` a str, beside
@@ -12,6 +12,10 @@ of the HTML shows the same text of a megabyte is checked, but for carriage retur
 With --events it is `events` alone, of bytes, beside `ByteStream` of pyte (Debian's python3-pyte; run this by
 the Python that has it) whose listener does nothing, and beside the calls of the library that `events` makes,
 with nothing read of what they write. Beside the times stand those for one event, in nanoseconds.
+
+With --screens it is pyte's own benchmark, of `ansi_proved.pyte` beside pyte: a stream feeds a screen of 80x24, whole and again and again, by
+corpora and recordings. Then what one takes that reads the screen after each feed of 100 bytes: by `display`, by each Char of `buffer`,
+and by those of the lines that are dirty. These are seconds of a processor.
 
 With --short it is what a call takes of a str of 20 characters, in microseconds: a clean one, and one with two
 colours.
@@ -41,14 +45,14 @@ OF_STR = re.compile(EXPRESSION, re.ASCII)
 OF_BYTES = re.compile(EXPRESSION.encode("ascii"))
 
 
-def least(actions, rounds):
+def least(actions, rounds, clock=time.perf_counter):
     """The least time of each, by turns."""
     took = [[] for _ in actions]
     for _ in range(rounds):
         for action, times in zip(actions, took):
-            start = time.perf_counter()
+            start = clock()
             result = action()
-            times.append(time.perf_counter() - start)
+            times.append(clock() - start)
             del result
     return [min(times) for times in took]
 
@@ -61,13 +65,14 @@ def shown(page):
 def main():
     parser = argparse.ArgumentParser(description=__doc__, formatter_class=argparse.RawDescriptionHelpFormatter)
     parser.add_argument("--events", action="store_true")
+    parser.add_argument("--screens", action="store_true")
     parser.add_argument("--short", action="store_true")
-    parser.add_argument("--bytes", type=int, help="(16 MiB, and of events 1 MiB)")
+    parser.add_argument("--bytes", type=int, help="(16 MiB, of events 1 MiB, of screens 64 KiB)")
     parser.add_argument("--rounds", type=int, default=5)
     options = parser.parse_args()
-    options.bytes = options.bytes or (1 << 20 if options.events else 16 << 20)
+    options.bytes = options.bytes or (1 << 20 if options.events else 1 << 16 if options.screens else 16 << 20)
     print(measure.load())
-    (time_events if options.events else time_short if options.short else time_texts)(options)
+    (time_events if options.events else time_screens if options.screens else time_short if options.short else time_texts)(options)
     print(measure.load())
 
 
@@ -133,6 +138,59 @@ def time_events(options):
         ours, theirs, alone = least(actions, options.rounds)
         values = make_line.__name__, ours, theirs, theirs / ours, alone, 1e9 * ours / call_all(stream)
         print("%-12s  %8.4f  %8.4f  %6.1f  %8.4f  %6.0f" % values, flush=True)
+
+
+def recordings():
+    """What programs wrote to a terminal of 80x24."""
+    folder = ROOT + "/tests/screen/recordings"
+    for name in sorted(os.listdir(folder)):
+        with open("%s/%s" % (folder, name), encoding="utf-8", newline="") as file:
+            yield name, file.read()
+
+
+def each_char(screen, lines):
+    for line in lines:
+        row = screen.buffer[line]
+        for column in range(screen.columns):
+            row[column]
+
+
+def dirty_chars(screen):
+    each_char(screen, screen.dirty)
+    screen.dirty.clear()
+
+
+READINGS = {"display": lambda it: it.display, "buffer": lambda it: each_char(it, range(it.lines)), "dirty": dirty_chars}
+
+
+def feed_and_read(pyte, text, read):
+    screen = pyte.Screen(80, 24)
+    stream = pyte.Stream(screen)
+    for at in range(0, len(text), 100):
+        stream.feed(text[at : at + 100])
+        read(screen)
+
+
+def time_screens(options):
+    """A row for each stream, that a Screen and a HistoryScreen are fed, and one for each way to read."""
+    import pyte
+    import ansi_proved.pyte as ours
+
+    streams = [(it.__name__, measure.corpus(it, options.bytes).decode(errors="ignore")) for it in measure.CORPORA]
+    row = "%-20s  %8d" + 2 * "  %8.5f  %8.5f  %6.1f"
+    print("%-20s  %8s" % ("seconds", "chars") + "".join("  %8s  %8s  %6s" % (it, "pyte", "ratio") for it in ("Screen", "History")))
+    for name, text in [*streams, *recordings()]:
+        values = []
+        for kind in ("Screen", "HistoryScreen"):
+            fed = [module.Stream(getattr(module, kind)(80, 24)) for module in (ours, pyte)]
+            times = least([lambda it=it: it.feed(text) for it in fed], options.rounds, time.process_time)
+            values += [*times, times[1] / times[0]]
+        print(row % (name, len(text), *values), flush=True)
+    print("%-20s  %8s  %8s  %6s" % ("seconds, read", "ours", "pyte", "ratio"))
+    text = dict(recordings())["pip"]
+    for name, read in READINGS.items():
+        times = least([lambda module=module: feed_and_read(module, text, read) for module in (ours, pyte)], options.rounds, time.process_time)
+        print("%-20s  %8.5f  %8.5f  %6.1f" % (name, *times, times[1] / times[0]), flush=True)
 
 
 def read_all(events):

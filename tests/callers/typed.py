@@ -7,7 +7,7 @@ from typing import Dict, Hashable, Iterator, List, Sequence, Set, Tuple
 
 import ansi_proved
 from ansi_proved import STYLINGS, Cell, Color, Csi, Cursor, Esc, Execute, History, Hook, Modes, Osc, Place, Put, Screen, Style, Text, Unhook
-from ansi_proved import color_rgb
+from ansi_proved import color_rgb, pyte
 
 flag: bool = True
 text: str = ansi_proved.strip("a")
@@ -193,6 +193,21 @@ with Screen(120, 40, history=100) as screen:
     color.kind == "rgb"  # wrong
     history[0] = row  # wrong
     history["a"]  # wrong
+emulated: pyte.Screen = pyte.HistoryScreen(80, 24, 100, 0.5)
+pyte.Stream(emulated).feed("a")
+pyte.ByteStream(emulated).feed(b"a")
+char: pyte.screens.Char = emulated.buffer[0][0]
+lines = emulated.display + [char.data, char.fg, emulated.title, pyte.control.ESC, pyte.escape.RIS, pyte.graphics.FG_BG_256[0]]
+emulated.cursor.x = min(emulated.dirty)
+flag = char.bold and pyte.modes.LNM in emulated.mode and emulated.cursor.hidden and emulated.cursor.attrs.blink
+emulated.set_mode(25, private=True)
+emulated.cursor_position(1, 1)
+pyte.Stream(emulated).feed(b"a")  # wrong
+pyte.ByteStream(emulated).feed("a")  # wrong
+pyte.Stream("80")  # wrong
+emulated.history  # wrong
+emulated.buffer[0][0] = char  # wrong
+emulated.resize(24, 80)  # wrong
 Screen("80")  # wrong
 Screen(80, 24, 100, 5)  # wrong
 STYLINGS["both"]

@@ -42,6 +42,7 @@ def parameters_of(function):
     defaults = [it.value for it in function.args.defaults]
     names = [it.arg for it in function.args.args]
     found = list(zip(names, [inspect.Parameter.empty] * (len(names) - len(defaults)) + defaults))
+    found += [(it.arg, inspect.Parameter.empty) for it in [function.args.vararg] if it]
     found += [(it.arg, of.value) for it, of in zip(function.args.kwonlyargs, function.args.kw_defaults)]
     return found + [(it.arg, inspect.Parameter.empty) for it in [function.args.kwarg] if it]
 

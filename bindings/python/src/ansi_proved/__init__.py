@@ -8,7 +8,7 @@ r"""Terminal output as clean text, HTML, events or a screen, by a proved library
     page(text)        a whole page of it; stylesheet() the rules of HTML by classes
     text_of(stream), html_of(stream)    the same of a stream in pieces, such as a file, piece by piece; shown_of(stream) at its end
     events(stream)    its events, named tuples: Text, Execute, Csi, Esc, Osc, Hook, Put, Unhook (any: Event); Events().feed(piece), end()
-    Screen(80, 24)    a terminal's screen, to feed and to look at, cell by cell
+    Screen(80, 24)    a terminal's screen, to feed and to look at, cell by cell; import ansi_proved.pyte as pyte has pyte's calls for it
     color_rgb(196)    the red, green and blue of one of xterm's 256 colours: (255, 0, 0)
 
 A text is a str, and leads to a str; or bytes, a bytearray or a memoryview, and leads to bytes. What is none of these is a

@@ -178,23 +178,28 @@ def _style_of(style):
     return Style(_color_of(style.foreground), _color_of(style.background), UNDERLINES[style.underline], *flags)
 
 
-def _cell_of(cell):
+def cell_of(cell):
+    """The cell of its bytes."""
     width = _WIDTHS[cell.part]
     text = "".join(map(chr, [cell.character, *cell.marks[: cell.mark_count]])) if width else ""
     return Cell(text, _style_of(cell.style), width, cell.link, bool(cell.goes_on))
 
 
-class _Kept(dict):
-    """Cells by their bytes: most are like another one, and the same is given again."""
+class Kept(dict):
+    """What is made of cells, by their bytes: most are like another one, and the same is given again."""
+
+    def __init__(self, make):
+        super().__init__()
+        self._make = make
 
     def __missing__(self, key):
         if len(self) >= KEPT:
             self.clear()
-        self[key] = cell = _cell_of(CellBytes.from_buffer_copy(key))
-        return cell
+        self[key] = made = self._make(CellBytes.from_buffer_copy(key))
+        return made
 
 
-_KEPT = _Kept()
+_KEPT = Kept(cell_of)
 
 
 @lru_cache(maxsize=16)
@@ -203,9 +208,9 @@ def _parts(columns):
     return Struct("%ds" % SIZE * columns)
 
 
-def cells_of(row):
-    """The cells of a row, of its bytes."""
-    return list(map(_KEPT.__getitem__, _parts(len(row) // SIZE).unpack(row)))
+def cells_of(row, kept=_KEPT):
+    """The cells of a row, of its bytes; or what else is kept of each."""
+    return list(map(kept.__getitem__, _parts(len(row) // SIZE).unpack(row)))
 
 
 def _number(value, what):

@@ -123,7 +123,7 @@ def example_cases(room, folders):
     yield both("pyte's history.py", folders, "-c", SEEDED, given=b"\n\n\n")
     with open(room + "/text", "w", encoding="utf-8") as file:
         file.writelines("line %d, \u00e4\u6f22\t|\n" % it for it in range(100))
-    for words in (["/usr/bin/less", room + "/text"], ["/usr/bin/vim", "-u", "NONE", "-N", room + "/text"]):
+    for words in (["/usr/bin/less", room + "/text"], ["/usr/bin/vim", "-n", "-N", "-u", "NONE", room + "/text"]):
         if os.path.exists(words[0]):
             # (it ends where a program has written nothing for a second, as one that has no turn yet)
             yield both("pyte's nanoterm.py: %s" % " ".join(map(os.path.basename, words)), folders, "nanoterm.py", *words, tries=5)

@@ -54,7 +54,7 @@ def same_cases(ansi, streams, ansi2svg):
         wanted = run([ansi2svg, "--size=%dx%d" % SIZE, *words], stream).stdout.decode()
         if screen.to_svg(**given) != wanted:
             wrong.append((stream, words))
-    few = None if scrolled > len(streams) // 4 else "few rows left, of %d streams" % scrolled
+    few = None if scrolled > len(streams) // 10 else "few rows left, of %d streams" % scrolled
     yield "on generated streams pictures are those of ansi2svg", "not of %r" % (wrong[0],) if wrong else few
     screen = fed(ansi, (4, 2), b"a\r\n" * 1500 + b"b", history=2000)
     wanted = run([ansi2svg, "--size=4x2", "--shown"], b"a\n" * 1500 + b"b").stdout.decode()

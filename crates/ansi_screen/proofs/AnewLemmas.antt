@@ -1,7 +1,7 @@
 -- A row that is written anew: what it showed before is overwritten, and the rest is erased.
 use Rattle.std.proofs.Common.{◌≡◌, ℕ, zero, suc, ◌+◌, ◌-◌, ◌*◌, ◌<◌, ◌≤◌, Bool, true, false, ◌&&◌, List, [], ◌∷◌, ◌++◌, length, take, drop, set, refl, ap, ap₂, sym, ◌∙◌, subst, arith}
 use Rattle.std.specs.Prelude.{min, nat_lt, ◌==◌, replicate, if◌then◌else◌, Option, None}
-use Rattle.std.proofs.lemmas.Bool.{and_parts, eqb-true, le-leb}
+use Rattle.std.proofs.lemmas.Bool.{and_parts, eqb-true}
 use Rattle.std.proofs.lemmas.List.{take-append-drop, drop-drop}
 use Rattle.std.proofs.Math.Nat.{mul-le-mul_right}
 use borrow.Author.Tests.{ltb-true, ltb-false, eqb-false}
@@ -25,7 +25,7 @@ use Rattle.ansi_screen.proofs.RunLemmas.{right_at, cut-on, cut-off}
 use Rattle.ansi_screen.proofs.GoingLemmas.{going-twice, going-marked, going-right, last-set}
 use Rattle.ansi_screen.proofs.KeptLemmas.{kept-above_at, kept-column, row_end-inside}
 use Rattle.ansi_screen.proofs.KeptCalls.{columns-few, kept-printed}
-use Rattle.ansi_screen.proofs.LeavingTable.{again-leaves}
+use Rattle.ansi_screen.proofs.WrapLemmas.{fits-left}
 use Rattle.ansi_screen.proofs.RowLemmas.{Same, same-refl, same-sym, same-trans, IsFree, same-set, same-cuts, marked-behind, marked-front, marked-free, same-going_on, going_on-free, same-both, in_row, drawn-if, room_by, over_by, put_by, marked-by, put-by, row_end-free, room-free, over-same, over-front, over-free, over-inside, Wrote, printed-wrote}
 
 -- Lists of cells that differ between two places, at the second of which a row ends, and in whether that row goes on.
@@ -315,7 +315,7 @@ beside_of d p h = record { display = d; last = None; shown = p; history = h }
 
 none-leaves : (c : ℕ) (d e : Display) → e ≡ d → d.cursor.column + columns c ≤ d.width → (printed c e).left ≡ []
 none-leaves c d e is fits =
-    ap (λ (x : Display). (printed c x).left) is ∙ again-leaves c d (le-leb (d.cursor.column + columns c) d.width fits)
+    ap (λ (x : Display). (printed c x).left) is ∙ fits-left c d fits
 
 stays-kept : (c : ℕ) (d : Display) (s : State) → s.display ≡ d → d.cursor.column + columns c ≤ d.width → (after (print c) s).history ≡ s.history
 stays-kept c d s is fits = ap (λ rows. with_left rows s.history) (none-leaves c d s.display is fits)

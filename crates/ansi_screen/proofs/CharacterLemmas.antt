@@ -1,10 +1,10 @@
 -- Cells hold characters alone that may be printed and are shown, whatever calls a screen receives.
-use Rattle.std.proofs.Common.{◌≡◌, ℕ, zero, suc, ◌+◌, ◌-◌, ◌*◌, ◌<◌, ◌≤◌, Bool, true, false, List, [], ◌∷◌, ◌++◌, length, take, drop, set, refl, sym, subst, arith}
+use Rattle.std.proofs.Common.{◌≡◌, ℕ, zero, suc, ◌+◌, ◌-◌, ◌*◌, ◌<◌, ◌≤◌, Bool, true, false, List, [], ◌∷◌, ◌++◌, length, take, drop, set, refl, arith}
 use Rattle.std.specs.Prelude.{⊤, min, nat_lt, nat_le, nat_eq, ◌==◌, ◌&&◌, not, replicate, slice_index, if◌then◌else◌, Option, None, Some}
 use Rattle.std.specs.List.{AllByRecursion}
 use Rattle.std.proofs.lemmas.Bool.{and_parts, leb-true}
 use Rattle.anstyle_parse.specs.Stream.Bytes.{is_within}
-use Rattle.anstyle_parse.specs.Stream.Call.{Call, print, execute, hook, put as put_byte, unhook, osc_dispatch, csi_dispatch, esc_dispatch}
+use Rattle.anstyle_parse.specs.Stream.Call.{Call, print, csi_dispatch}
 use Rattle.anstyle_parse.specs.Laws.Lawful.{is_character}
 use Rattle.anstyle_parse.proofs.Lists.Parts.{AllByRecursion-take}
 use Rattle.ansi_style.specs.Style.{plain}
@@ -14,18 +14,16 @@ use Rattle.ansi_screen.specs.declared.cell.Marks.{Marks}
 use Rattle.ansi_screen.specs.declared.cell.Marks.TheVariants.{Unmarked, One, Two}
 use Rattle.ansi_screen.specs.Cells.{blank, emptied, with_mark, one_more, is_right, cell_at, marked_before, going_on, cut, within, change, erased, moved_back, moved_on}
 use Rattle.ansi_screen.specs.Display.{Display, here, row_end, row_cells, fresh}
-use Rattle.ansi_screen.specs.Edits.{space, row_going_on}
+use Rattle.ansi_screen.specs.Edits.{space}
 use Rattle.ansi_screen.specs.Widths.{is_shown, columns}
 use Rattle.ansi_screen.specs.Print.{glyph, line_drawing, drawn}
 use Rattle.ansi_screen.specs.Modes.{softly_reset}
-use Rattle.ansi_screen.specs.After.{left_to_repeat, State, repeatable, after, after_all}
+use Rattle.ansi_screen.specs.After.{left_to_repeat, State, repeatable, step_of, after, after_all}
 use Rattle.ansi_screen.specs.Edits.{swapped, main_screen}
-use Rattle.ansi_screen.specs.Text.{first_rows}
-use Rattle.ansi_screen.specs.Laws.{is_wrapping}
+use Rattle.ansi_screen.specs.Text.{first_rows, printed_count}
 use Rattle.ansi_screen.specs.Leaving.{rows_left, all_left}
-use Rattle.ansi_screen.proofs.LeavingTable.{leaving, before_escape, before_leaving, rows_left-is}
 use Rattle.ansi_screen.proofs.KeptLemmas.{Change, erase, join, delete, insert, rows_back, rows_on, write, add_mark, to_other, back, renew, drawn_if}
-use Rattle.ansi_screen.proofs.Walk.{MayBe, MayRepeat, walk}
+use Rattle.ansi_screen.proofs.Walk.{MayBe, MayRepeat, Turned, turn}
 
 -- a character that may be printed and is shown; such marks, cells and displays
 abbrev pub IsGood : ℕ → Type 0
@@ -234,50 +232,30 @@ good-last : (call : Call) → PrintsCharacter call → IsGoodLast (left_to_repea
 good-last (print c) is = good-repeatable c is
 good-last call is = tt
 
-pub good-after : (call : Call) (s : State) → PrintsCharacter call → IsGoodState s → IsGoodState (after call s)
-good-after call s is good = record {
-  display = walk IsCharacter ⊤ HasGood good-turn call s.last s.display (may-print call is) good.last good.display;
-  last = good-last call is;
-}
-
-pub good-after_all : (calls : List Call) (s : State) → AllByRecursion PrintsCharacter calls → IsGoodState s → IsGoodState (after_all calls s)
-good-after_all [] s are good = good
-good-after_all (call ∷ calls) s are good = good-after_all calls (after call s) are.1 (good-after call s are.0 good)
-
--- the rows that leave it
+-- the rows that leave it, and the screen after a call
 pub good-first_rows : (n : ℕ) (d : Display) → HasGood d → AllByRecursion AreGood (first_rows n d)
 good-first_rows zero d s = tt
 good-first_rows (suc n) d s =
     all-append AreGood (first_rows n d) (row_cells n d ∷ []) (good-first_rows n d s)
     (good-take d.width (drop (n * d.width) d.cells) (good-drop (n * d.width) d.cells s.0), tt)
 
-marked-good : (t : Bool) (d : Display) → HasGood d → HasGood (if t then row_going_on true d else d)
-marked-good true d s = (good-going_on true (row_end d) d.cells s.0, s.1)
-marked-good false d s = s
-
 good-main : (d : Display) → HasGood d → HasGood (main_screen d)
 good-main d s = good-if d.is_alternate (swapped d) d (s.1, s.0) s
 
-good-before_escape : (intermediates : List ℕ) (final : ℕ) (d : Display) → HasGood d → HasGood (before_escape intermediates final d)
-unfolding before_escape
-good-before_escape [] final d s = good-if (final == 0x63) (main_screen d) d (good-main d s) s
-good-before_escape (mark ∷ marks) final d s = s
+good-turned : (call : Call) (s : State) → PrintsCharacter call → IsGoodState s → Turned HasGood (AllByRecursion AreGood) (step_of call s.last s.display)
+good-turned call s is good =
+    turn IsCharacter ⊤ HasGood good-turn (AllByRecursion AreGood) tt (λ n d has few. good-first_rows n d has)
+    (λ d has. good-first_rows (printed_count (main_screen d)) (main_screen d) (good-main d has)) call s.last s.display (may-print call is) good.last good.display
 
-good-before_leaving : (call : Call) (d : Display) → HasGood d → HasGood (before_leaving call d)
-good-before_leaving (print c) d s = marked-good (is_wrapping c d) d s
-good-before_leaving (execute byte) d s = s
-good-before_leaving (csi_dispatch groups intermediates ignore final) d s = s
-good-before_leaving (esc_dispatch intermediates ignore final) d s =
-    good-if ignore d (before_escape intermediates final d) s (good-before_escape intermediates final d s)
-good-before_leaving (hook groups intermediates ignore final) d s = s
-good-before_leaving (put_byte byte) d s = s
-good-before_leaving unhook d s = s
-good-before_leaving (osc_dispatch parts bell) d s = s
+pub good-after : (call : Call) (s : State) → PrintsCharacter call → IsGoodState s → IsGoodState (after call s)
+good-after call s is good = record { display = (good-turned call s is good).keeps; last = good-last call is }
+
+pub good-after_all : (calls : List Call) (s : State) → AllByRecursion PrintsCharacter calls → IsGoodState s → IsGoodState (after_all calls s)
+good-after_all [] s are good = good
+good-after_all (call ∷ calls) s are good = good-after_all calls (after call s) are.1 (good-after call s are.0 good)
 
 pub good-left : (calls : List Call) (s : State) → AllByRecursion PrintsCharacter calls → IsGoodState s → AllByRecursion AreGood (all_left calls s)
 good-left [] s are good = tt
 good-left (call ∷ calls) s are good =
-    all-append AreGood (rows_left call s) (all_left calls (after call s))
-    (subst (λ rows. AllByRecursion AreGood rows) (sym (rows_left-is call s))
-    (good-first_rows (leaving call s.display) (before_leaving call s.display) (good-before_leaving call s.display good.display)))
+    all-append AreGood (rows_left call s) (all_left calls (after call s)) (good-turned call s are.0 good).leaves
     (good-left calls (after call s) are.1 (good-after call s are.0 good))

@@ -1,5 +1,6 @@
 -- What any call leaves on a screen is such as printing and erasing leave it.
 use Rattle.std.proofs.Common.{◌≡◌, ℕ, zero, suc, ◌+◌, ◌-◌, ◌*◌, ◌<◌, ◌≤◌, Bool, true, false, List, [], ◌∷◌, ◌++◌, length, take, drop, set, refl, ◌∙◌, arith, inl, inr}
+use Rattle.std.specs.List.{AllByRecursion}
 use Rattle.std.specs.Prelude.{⊤, min, nat_lt, nat_eq, ◌&&◌, replicate, if◌then◌else◌, Option, None, Some, nat_le}
 use Rattle.std.proofs.lemmas.Bool.{eqb-true, and_parts, leb-true}
 use borrow.Author.Tests.{eqb-false, ltb-true, ltb-false}
@@ -13,20 +14,22 @@ use Rattle.ansi_screen.specs.declared.cell.Marks.TheVariants.{Unmarked, One, Two
 use Rattle.ansi_screen.specs.declared.cell.Part.{Part}
 use Rattle.ansi_screen.specs.declared.cell.Part.TheVariants.{Empty, Whole, Left, Right}
 use Rattle.ansi_screen.specs.Cells.{blank, emptied, with_mark, one_more, is_right, cell_at, marked_before, going_on, cut, within, change, erased, moved_back, moved_on}
-use Rattle.ansi_screen.specs.Display.{Display, here, row_end, fresh}
-use Rattle.ansi_screen.specs.Edits.{with_cells, space}
+use Rattle.ansi_screen.specs.Display.{Display, here, row_end, row_cells, fresh}
+use Rattle.ansi_screen.specs.Edits.{with_cells, space, swapped, main_screen}
 use Rattle.ansi_screen.specs.Widths.{is_shown, columns}
 use Rattle.ansi_screen.specs.Print.{glyph, line_drawing, drawn}
-use Rattle.ansi_screen.specs.After.{State, after, after_all}
+use Rattle.ansi_screen.specs.Text.{first_rows, printed_count}
+use Rattle.ansi_screen.specs.After.{State, step_of, after, after_all}
+use Rattle.ansi_screen.specs.Leaving.{rows_left}
 use Rattle.ansi_screen.specs.Reachable.{left_style, right_style, ArePaired, IsWhole, FitsPart, IsMark, AreMarks, HasColors, IsCell, AreCells, HasMargins, HidesNothing, IsScreen, HasContents}
 use Rattle.ansi_screen.proofs.PairLemmas.{right-not-left, left-none, paired-first}
 use Rattle.std.proofs.lemmas.List.{length-replicate}
 use Rattle.anstyle_parse.specs.Stream.Call.{Call}
 use Rattle.ansi_screen.specs.Modes.{softly_reset}
-use Rattle.ansi_screen.proofs.CharacterLemmas.{at-good, drawing-good}
+use Rattle.ansi_screen.proofs.CharacterLemmas.{all-append, at-good, drawing-good}
 use Rattle.ansi_screen.proofs.ColorLemmas.{selected-colors}
 use Rattle.ansi_screen.proofs.KeptLemmas.{Change, select, save, restore, erase, join, delete, insert, rows_back, rows_on, write, add_mark, narrow, to_other, back, soften, renew, drawn_if, kept-change}
-use Rattle.ansi_screen.proofs.Walk.{walk}
+use Rattle.ansi_screen.proofs.Walk.{Turned, turn}
 use Rattle.ansi_screen.proofs.KeptCalls.{Any, any-call, any-repeat, kept-after}
 
 -- the contents of a display, part by part
@@ -271,10 +274,33 @@ of-parts d s = record { cells = s.0; hidden = s.1; cursor_colored = s.2; saved_c
 pub contents-new : (width height : ℕ) → HasContents (fresh width height)
 contents-new width height = of-parts (fresh width height) (holds-new width height)
 
+-- rows of such cells
+pub cells-first_rows : (n : ℕ) (d : Display) → AreCells d.cells → AllByRecursion AreCells (first_rows n d)
+cells-first_rows zero d are = tt
+cells-first_rows (suc n) d are =
+    all-append AreCells (first_rows n d) (row_cells n d ∷ []) (cells-first_rows n d are)
+    (cells-take d.width (drop (n * d.width) d.cells) (cells-drop (n * d.width) d.cells are), tt)
+
+cells-main : (d : Display) (t : Bool) → Holds d → AreCells (if t then swapped d else d).cells
+cells-main d true s = s.1
+cells-main d false s = s.0
+
+-- what a call leaves, and the rows that leave by it
+abbrev Stands : Display → Type 0
+Stands d = IsScreen d × Holds d
+
+contents-turned : (call : Call) (s : State) → IsScreen s.display → HasContents s.display → Turned Stands (AllByRecursion AreCells) (step_of call s.last s.display)
+contents-turned call s screen is =
+    turn Any ⊤ Stands (λ d e change s. (kept-change Any ⊤ d e change s.0, holds-change d e change s.0 s.1))
+    (AllByRecursion AreCells) tt (λ n d s few. cells-first_rows n d s.1.0)
+    (λ d s. cells-first_rows (printed_count (main_screen d)) (main_screen d) (cells-main d d.is_alternate s.1))
+    call s.last s.display (any-call call) (any-repeat s.last) (screen, parts-of s.display is)
+
 pub contents-after : (call : Call) (s : State) → IsScreen s.display → HasContents s.display → HasContents (after call s).display
-contents-after call s screen is = of-parts (after call s).display
-    (walk Any ⊤ (λ d. IsScreen d × Holds d) (λ d e change s. (kept-change Any ⊤ d e change s.0, holds-change d e change s.0 s.1))
-    call s.last s.display (any-call call) (any-repeat s.last) (screen, parts-of s.display is)).1
+contents-after call s screen is = of-parts (after call s).display (contents-turned call s screen is).keeps.1
+
+pub contents-left : (call : Call) (s : State) → IsScreen s.display → HasContents s.display → AllByRecursion AreCells (rows_left call s)
+contents-left call s screen is = (contents-turned call s screen is).leaves
 
 pub contents-after_all : (calls : List Call) (s : State) → IsScreen s.display → HasContents s.display → HasContents (after_all calls s).display
 contents-after_all [] s screen is = is

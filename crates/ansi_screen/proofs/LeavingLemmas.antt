@@ -1,5 +1,5 @@
 -- Rows that are handed on, one after another, and what a call leaves of a screen of which they are taken.
-use Rattle.std.proofs.Common.{◌≡◌, ℕ, ◌+◌, ◌<◌, List, [], ◌∷◌, ◌++◌, length, take, refl, ap, ap₂, sym, ◌∙◌, subst, add-one, append-nil, arith}
+use Rattle.std.proofs.Common.{◌≡◌, ℕ, ◌+◌, ◌<◌, List, [], ◌∷◌, ◌++◌, length, take, refl, ap, ap₂, sym, ◌∙◌, subst, add-one, append-nil}
 use Rattle.std.specs.Prelude.{Some, slice_index_or}
 use Rattle.std.specs.Option.{option_map}
 use Rattle.std.proofs.lemmas.List.{take_more}
@@ -12,7 +12,6 @@ use Rattle.ansi_screen.specs.After.{State, after, after_all}
 use Rattle.ansi_screen.specs.Leaving.{unkept, kept_rows, rows_left, all_left, HasRoom, with_room_alone, TakesRows, Scrolled, screen_of, taker_of, Scrolls, ScrollsAll}
 use Rattle.ansi_screen.proofs.HistoryLemmas.{kept-columns}
 use Rattle.ansi_screen.proofs.SizeLemmas.{sized-after, sized-after_all, few-leave}
-use Rattle.ansi_screen.proofs.LeavingTable.{length-left}
 use Rattle.ansi_screen.proofs.LeftLemmas.{left_some, kept-left, unkept-after, unkept-after_all, all_left-unkept, history-after_all}
 
 module _ {R : Type 0} (takes : R → List Cell → R → Type 0) where
@@ -92,7 +91,7 @@ module _ {R : Type 0} (takes : R → List Cell → R → Type 0) where
     taken = subst (λ l. TakesRows takes old l new)
         (ap (λ (t : State). kept_rows t.history) is
         ∙ kept-left (rows_left call s) (nothing_kept s.display.height s.display.width) s.history refl
-        (omega (arith, length-left call s, few-leave s.display.width s.display.height call s.display (refl, refl, has.sized.margins_within))) has.room)
+        (few-leave s.display.width s.display.height call s (refl, refl, has.sized.margins_within)) has.room)
         rows;
   }
 

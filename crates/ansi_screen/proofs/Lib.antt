@@ -18,7 +18,6 @@ pub mod TableLemmas
 pub mod TextLemmas
 pub mod CallLemmas
 pub mod RepeatLemmas
-pub mod LeavingTable
 pub mod LeftLemmas
 pub mod LeavingLemmas
 pub mod LawLemmas
@@ -26,6 +25,7 @@ pub mod ScrollLemmas
 pub mod PlainLemmas
 pub mod RowLemmas
 pub mod AnewLemmas
+pub mod WrapLemmas
 pub mod InsertLemmas
 pub mod EditLemmas
 pub mod DamageLemmas

@@ -1,8 +1,8 @@
 -- As many rows leave by a call as the screen moves up.
-use Rattle.std.proofs.Common.{◌≡◌, ℕ, zero, suc, ◌+◌, ◌-◌, ◌*◌, ◌<◌, ◌≤◌, Bool, true, false, List, [], ◌∷◌, ◌++◌, length, take, drop, refl, ap, ap₂, sym, ◌∙◌, inl, inr, arith}
-use Rattle.std.specs.Prelude.{◌≢◌, ◌⊎◌, min, nat_lt, nat_le, ◌==◌, ◌&&◌, ◌||◌, not, if◌then◌else◌}
+use Rattle.std.proofs.Common.{◌≡◌, ℕ, zero, suc, ◌+◌, ◌-◌, ◌*◌, ◌<◌, ◌≤◌, Bool, true, false, List, [], ◌∷◌, ◌++◌, length, take, drop, refl, ap, sym, subst, ◌∙◌, arith}
+use Rattle.std.specs.Prelude.{◌≢◌, min, nat_lt, nat_le, ◌==◌, ◌&&◌, ◌||◌, not, if◌then◌else◌}
 use Rattle.std.specs.Fn.{iterate}
-use Rattle.std.proofs.lemmas.Bool.{ne_eqb, leb-true, leb-false}
+use Rattle.std.proofs.lemmas.Bool.{leb-true, leb-false}
 use Rattle.std.proofs.lemmas.List.{take-append-drop, append-nil}
 use Rattle.std.proofs.Math.Nat.{mul-le-mul_right}
 use borrow.Author.Tests.{eqb-true}
@@ -14,20 +14,20 @@ use Rattle.ansi_screen.specs.declared.function.Setting.TheVariants.{Rendition, S
 use Rattle.ansi_screen.specs.Cells.{moved_back, within}
 use Rattle.ansi_screen.specs.Display.{Display}
 use Rattle.ansi_screen.specs.Moves.{to_column, settled, tabbed, with_stop, cleared_stops}
-use Rattle.ansi_screen.specs.Edits.{space, row_going_on, rows_up, scrolled_up, index}
+use Rattle.ansi_screen.specs.Edits.{space, row_going_on, rows_up, left_by_scroll, scrolled_up, index}
 use Rattle.ansi_screen.specs.Widths.{is_shown, columns}
 use Rattle.ansi_screen.specs.Print.{wrapped}
 use Rattle.ansi_screen.specs.Modes.{with_mode, with_modes, with_margins, with_charset, restored, first_field}
-use Rattle.ansi_screen.specs.State.{State, Step}
+use Rattle.ansi_screen.specs.State.{State, Step, stays, unchanged}
 use Rattle.ansi_screen.specs.After.{function_of, first_of, second_of, is_bare, count, set, controlled, executed, escaped, designated}
-use Rattle.ansi_screen.specs.Edits.{main_screen}
 use Rattle.ansi_screen.specs.Leaving.{rows_left}
 use Rattle.ansi_screen.specs.Text.{first_rows}
 use Rattle.ansi_screen.specs.Reachable.{IsScreen}
 use Rattle.ansi_screen.specs.Laws.{EditsNothing, KeepsRows, is_wrapping, before_scroll, once_scrolled}
-use Rattle.ansi_screen.proofs.LeavingTable.{rows_left-is, length-left, leaving_up, leaving_by_index, leaving_by_control, leaving_by_escape, leaving_by_function, leaving_by_sequence, leaving, before_escape, before_leaving}
+use Rattle.ansi_screen.proofs.SizeLemmas.{length-rows}
+use Rattle.ansi_screen.proofs.WrapLemmas.{printed-left}
 use Rattle.ansi_screen.proofs.PairLemmas.{length-run}
-use Rattle.ansi_screen.proofs.KeptLemmas.{kept-column, kept-settled, kept-going_on}
+use Rattle.ansi_screen.proofs.KeptLemmas.{kept-if, kept-column, kept-settled, kept-going_on}
 use Rattle.ansi_screen.proofs.LawLemmas.{moved-cursor, no-repeat, step-sequence}
 
 -- the cells of a display, moved up by so many rows above the lower margin
@@ -82,31 +82,62 @@ up-min n d false is s =
     ap (λ l. take start d.cells ++ (l ++ drop (end - start) (drop start d.cells))) (back-all (n * d.width) (d.bottom * d.width) (space d) run (omega arith) (omega arith))
     ∙ ap (λ k. up_by k d) (sym same)
 
--- the main screen, with the upper margin at its first row
-module _ (d : Display) (s : IsScreen d) (top : d.top ≡ 0) (main : d.is_alternate ≡ false) where
-  leaving-top : (n : ℕ) → leaving_up n d ≡ min n d.bottom
-  unfolding leaving_up
-  leaving-top n = rw (top, main) refl
+-- By a step the first rows of a display leave; on the main screen, with the upper margin at its first row, it moves up by as
+-- many rows.
+record MovesUp (from : Display) (step : Step) : Type 0 where
+  pub cells : IsScreen from → from.top ≡ 0 → from.is_alternate ≡ false → step.display.cells ≡ up_by (length step.left) from
+  pub rows : step.left ≡ first_rows (length step.left) from
 
-  scrolled-up : (n : ℕ) → (scrolled_up n d).display.cells ≡ up_by (leaving_up n d) d
-  unfolding rows_up
-  scrolled-up n =
+-- no row leaves, and all cells stay
+still : (from : Display) (step : Step) → step.left ≡ [] → step.display.cells ≡ from.cells → MovesUp from step
+still from step none same =
+    let no : length step.left ≡ 0 = ap length none in
+    record {
+      cells = λ screen top main. same ∙ (sym (up-none from) ∙ ap (λ n. up_by n from) (sym no));
+      rows = none ∙ ap (λ n. first_rows n from) (sym no);
+    }
+
+-- either of two steps
+pick : (t : Bool) {from : Display} {a b : Step} → (t ≡ true → MovesUp from a) → (t ≡ false → MovesUp from b) → MovesUp from (if t then a else b)
+pick true first second = first refl
+pick false first second = second refl
+
+-- SU, and a move to the next row
+scroll-left : (t : Bool) (n : ℕ) (d : Display) (rows : List (List Cell)) → rows ≡ (if t then first_rows n d else []) → rows ≡ first_rows (length rows) d
+scroll-left true n d rows is = is ∙ ap (λ k. first_rows k d) (sym (ap length is ∙ length-rows n d.width d.cells))
+scroll-left false n d rows is = is ∙ ap (λ k. first_rows k d) (sym (ap length is))
+
+scrolled-up : (n : ℕ) (d : Display) → MovesUp d (scrolled_up n d)
+unfolding left_by_scroll rows_up
+scrolled-up n d = record {
+  cells = λ screen top main.
+      let all : left_by_scroll n d ≡ first_rows (min n d.bottom) d = rw (top, main) refl in
       ap (λ k. (rows_up n k d.bottom d).cells) top
-      ∙ (up-min n d _ refl s ∙ ap (λ k. up_by k d) (sym (leaving-top n)))
+      ∙ (up-min n d _ refl screen ∙ ap (λ k. up_by k d) (sym (ap length all ∙ length-rows (min n d.bottom) d.width d.cells)));
+  rows = scroll-left (d.top == 0 && not d.is_alternate) (min n d.bottom) d (left_by_scroll n d) refl;
+}
 
-  index-up : (t : Bool) → (d.cursor.row + 1 == d.bottom) ≡ t → (index d).display.cells ≡ up_by (leaving_by_index d) d
-  unfolding index leaving_by_index
-  index-up true is = rw is (scrolled-up 1)
-  index-up false is = rw is (sym (up-none d))
+index-up : (d : Display) → MovesUp d (index d)
+unfolding index
+index-up d = pick (d.cursor.row + 1 == d.bottom) (λ last. scrolled-up 1 d) (λ no. still d _ refl refl)
+
+-- wherever the cursor was
+settled-up : (d : Display) → MovesUp d (index (settled d))
+unfolding rows_up
+settled-up d =
+    let it : MovesUp (settled d) (index (settled d)) = index-up (settled d) in
+    record { cells = λ screen top main. it.cells (kept-settled d screen) top main; rows = it.rows }
+
+first-up : (d : Display) → MovesUp d (index (to_column 0 d))
+unfolding rows_up
+first-up d =
+    let it : MovesUp (to_column 0 d) (index (to_column 0 d)) = index-up (to_column 0 d) in
+    record { cells = λ screen top main. it.cells (kept-column 0 d screen) top main; rows = it.rows }
 
 -- either of two displays with the same cells
 same-if : (cells : List Cell) (t : Bool) (a b : Display) → a.cells ≡ cells → b.cells ≡ cells → (if t then a else b).cells ≡ cells
 same-if cells true a b first second = first
 same-if cells false a b first second = second
-
-after-if : (cells : List Cell) (t : Bool) (a b : Step) → a.display.cells ≡ cells → b.display.cells ≡ cells → (if t then a else b).display.cells ≡ cells
-after-if cells true a b first second = first
-after-if cells false a b first second = second
 
 tabbed-cells : (d : Display) → (tabbed d).cells ≡ d.cells
 unfolding tabbed
@@ -134,163 +165,114 @@ unfolding restored
 restored-cells d = same-if d.cells d.saved.is_relative _ _ refl refl
 
 -- by a control function
-control-up : (function : Function) (groups : List (List ℕ)) (d : Display) → IsScreen d → d.top ≡ 0 → d.is_alternate ≡ false
-    → EditsNothing function → (controlled function groups d).display.cells ≡ up_by (leaving_by_function function groups d) d
-unfolding controlled leaving_by_function set
-control-up (Edits edit) groups d s top main never = absurd never
-control-up (Moves move) groups d s top main steady =
-    ap (λ (e : Display). e.cells) (moved-cursor move (first_of groups) (second_of groups) d) ∙ sym (up-none d)
-control-up (Sets Rendition) groups d s top main steady = sym (up-none d)
-control-up (Sets SetModes) groups d s top main steady = mode-cells true groups d ∙ sym (up-none d)
-control-up (Sets ResetModes) groups d s top main steady = mode-cells false groups d ∙ sym (up-none d)
-control-up (Sets Margins) groups d s top main steady = margin-cells (first_of groups) (second_of groups) d ∙ sym (up-none d)
-control-up (Sets ScrollUp) groups d s top main steady = scrolled-up d s top main (count (first_of groups))
-control-up (Sets ScrollDown) groups d s top main never = absurd never
-control-up (Sets ForwardTab) groups d s top main steady = tabs-cells (min (count (first_of groups)) d.width) d ∙ sym (up-none d)
-control-up (Sets ClearStops) groups d s top main steady = stop-cells (first_of groups) d ∙ sym (up-none d)
-control-up (Sets SaveCursor) groups d s top main steady = after-if d.cells (is_bare groups) _ _ refl refl ∙ sym (up-none d)
-control-up (Sets RestoreCursor) groups d s top main steady = after-if d.cells (is_bare groups) _ _ (restored-cells d) refl ∙ sym (up-none d)
-control-up Nothing groups d s top main steady = sym (up-none d)
+control-up : (function : Function) (groups : List (List ℕ)) (d : Display) → EditsNothing function → MovesUp d (controlled function groups d)
+unfolding controlled set
+control-up (Edits edit) groups d never = absurd never
+control-up (Moves move) groups d steady = still d _ refl (ap (λ (e : Display). e.cells) (moved-cursor move (first_of groups) (second_of groups) d))
+control-up (Sets Rendition) groups d steady = still d _ refl refl
+control-up (Sets SetModes) groups d steady = still d _ refl (mode-cells true groups d)
+control-up (Sets ResetModes) groups d steady = still d _ refl (mode-cells false groups d)
+control-up (Sets Margins) groups d steady = still d _ refl (margin-cells (first_of groups) (second_of groups) d)
+control-up (Sets ScrollUp) groups d steady = scrolled-up (count (first_of groups)) d
+control-up (Sets ScrollDown) groups d never = absurd never
+control-up (Sets ForwardTab) groups d steady = still d _ refl (tabs-cells (min (count (first_of groups)) d.width) d)
+control-up (Sets ClearStops) groups d steady = still d _ refl (stop-cells (first_of groups) d)
+control-up (Sets SaveCursor) groups d steady = pick (is_bare groups) (λ bare. still d _ refl refl) (λ numbers. still d _ refl refl)
+control-up (Sets RestoreCursor) groups d steady = pick (is_bare groups) (λ bare. still d _ refl (restored-cells d)) (λ numbers. still d _ refl refl)
+control-up Nothing groups d steady = still d _ refl refl
 
--- by a control: LF, VT and FF, and all others
-or-three : (byte : ℕ) (a b c : Bool) → byte == 0x0A ≡ a → byte == 0x0B ≡ b → byte == 0x0C ≡ c → (a || b || c) ≡ true
-    → (byte ≡ 0x0A) ⊎ ((byte ≡ 0x0B) ⊎ (byte ≡ 0x0C))
-or-three byte true b c first second third is = inl (eqb-true byte 0x0A first)
-or-three byte false true c first second third is = inr (inl (eqb-true byte 0x0B second))
-or-three byte false false true first second third is = inr (inr (eqb-true byte 0x0C third))
-or-three byte false false false first second third is = cc is
-
-feed-index : (byte : ℕ) (d : Display) → (byte ≡ 0x0A) ⊎ ((byte ≡ 0x0B) ⊎ (byte ≡ 0x0C)) → executed byte d ≡ index (settled d)
+-- by a control
+executed-up : (byte : ℕ) (d : Display) → MovesUp d (executed byte d)
 unfolding executed
-feed-index byte d (inl is) = rw is refl
-feed-index byte d (inr (inl is)) = rw is refl
-feed-index byte d (inr (inr is)) = rw is refl
+executed-up byte d =
+    pick (byte == 0x08) (λ is. still d _ refl refl)
+    (λ a. pick (byte == 0x09) (λ is. still d _ refl (tabbed-cells d))
+    (λ b. pick (byte == 0x0A || byte == 0x0B || byte == 0x0C) (λ is. settled-up d)
+    (λ e. pick (byte == 0x0D) (λ is. still d _ refl refl)
+    (λ f. pick (byte == 0x0E) (λ is. still d _ refl refl)
+    (λ g. pick (byte == 0x0F) (λ is. still d _ refl refl) (λ unknown. still d _ refl refl))))))
 
-settled-up : (d : Display) → IsScreen d → d.top ≡ 0 → d.is_alternate ≡ false → (index (settled d)).display.cells ≡ up_by (leaving_by_index d) d
-unfolding leaving_by_index leaving_up rows_up
-settled-up d s top main = index-up (settled d) (kept-settled d s) top main _ refl
-
-first-up : (d : Display) → IsScreen d → d.top ≡ 0 → d.is_alternate ≡ false → (index (to_column 0 d)).display.cells ≡ up_by (leaving_by_index d) d
-unfolding leaving_by_index leaving_up rows_up
-first-up d s top main = index-up (to_column 0 d) (kept-column 0 d s) top main _ refl
-
-executed-up : (byte : ℕ) (d : Display) (t : Bool) → (byte == 0x0A || byte == 0x0B || byte == 0x0C) ≡ t → IsScreen d
-    → d.top ≡ 0 → d.is_alternate ≡ false → (executed byte d).display.cells ≡ up_by (leaving_by_control byte d) d
-unfolding executed leaving_by_control
-executed-up byte d true is s top main =
-    ap (λ (e : Step). e.display.cells) (feed-index byte d (or-three byte _ _ _ refl refl refl is))
-    ∙ rw is (settled-up d s top main)
-executed-up byte d false is s top main =
-    rw is (after-if d.cells (byte == 0x08) _ _ refl
-    (after-if d.cells (byte == 0x09) _ _ (tabbed-cells d)
-    (after-if d.cells (byte == 0x0D) _ _ refl
-    (after-if d.cells (byte == 0x0E) _ _ refl
-    (after-if d.cells (byte == 0x0F) _ _ refl refl)))) ∙ sym (up-none d))
-
--- by an escape sequence: IND and NEL, and all others
-or-two : (final : ℕ) (a b : Bool) → final == 0x44 ≡ a → final == 0x45 ≡ b → (a || b) ≡ true → (final ≡ 0x44) ⊎ (final ≡ 0x45)
-or-two final true b first second is = inl (eqb-true final 0x44 first)
-or-two final false true first second is = inr (eqb-true final 0x45 second)
-or-two final false false first second is = cc is
-
-escaped-index : (final : ℕ) (d : Display) → (final ≡ 0x44) ⊎ (final ≡ 0x45) → IsScreen d → d.top ≡ 0 → d.is_alternate ≡ false
-    → (escaped final d).display.cells ≡ up_by (leaving_by_index d) d
+-- by an escape sequence
+escaped-up : (final : ℕ) (d : Display) → (final ≢ 0x4D) × (final ≢ 0x63) → MovesUp d (escaped final d)
 unfolding escaped
-escaped-index final d (inl is) s top main = rw is (settled-up d s top main)
-escaped-index final d (inr is) s top main = rw is (first-up d s top main)
-
-or-left : (a b : Bool) → (a || b) ≡ false → (a ≡ false) × (b ≡ false)
-or-left true b is = cc is
-or-left false b is = (refl, is)
-
-escaped-up : (final : ℕ) (d : Display) (t : Bool) → (final == 0x44 || final == 0x45) ≡ t → (final ≢ 0x4D) × (final ≢ 0x63) → IsScreen d
-    → d.top ≡ 0 → d.is_alternate ≡ false → (escaped final d).display.cells ≡ up_by (leaving_by_escape [] final d) d
-unfolding leaving_by_escape escaped
-escaped-up final d true is others s top main =
-    escaped-index final d (or-two final _ _ refl refl is) s top main ∙ rw is refl
-escaped-up final d false is others s top main =
-    let no = or-left (final == 0x44) (final == 0x45) is in
-    rw (is, no.0, no.1, ne_eqb final 0x4D others.0, ne_eqb final 0x63 others.1)
-    (after-if d.cells (final == 0x37) _ _ refl
-    (after-if d.cells (final == 0x38) _ _ (restored-cells d)
-    (after-if d.cells (final == 0x48) _ _ refl refl)) ∙ sym (up-none d))
+escaped-up final d others =
+    pick (final == 0x37) (λ is. still d _ refl refl)
+    (λ a. pick (final == 0x38) (λ is. still d _ refl (restored-cells d))
+    (λ b. pick (final == 0x44) (λ is. settled-up d)
+    (λ e. pick (final == 0x45) (λ is. first-up d)
+    (λ f. pick (final == 0x48) (λ is. still d _ refl refl)
+    (λ g. pick (final == 0x4D) (λ is. absurd (others.0 (eqb-true final 0x4D is)))
+    (λ h. pick (final == 0x63) (λ is. absurd (others.1 (eqb-true final 0x63 is))) (λ unknown. still d _ refl refl)))))))
 
 charset-cells : (mark final : ℕ) (d : Display) → (with_charset mark final d).cells ≡ d.cells
 unfolding with_charset
 charset-cells mark final d =
     same-if d.cells (mark == 0x28) _ _ refl (same-if d.cells (mark == 0x29) _ d refl refl)
 
--- by a character: autowrap
-wrap-if : (a b c : Bool) (x y : Step) (j d : Display) (n bottom : ℕ) → x.display.cells ≡ (rows_up n 0 bottom j).cells
-    → y.display.cells ≡ (rows_up 0 0 bottom d).cells → d.cells ≡ (rows_up 0 0 bottom d).cells
-    → (if a then (if b then (if c then x else y) else record { display = d; left = [] }).display else d).cells
-    ≡ (rows_up (if a && b && c then n else 0) 0 bottom (if a && b && c then j else d)).cells
-wrap-if true true true x y j d n bottom first second third = first
-wrap-if true true false x y j d n bottom first second third = second
-wrap-if true false c x y j d n bottom first second third = third
-wrap-if false b c x y j d n bottom first second third = third
+-- by a character: autowrap, before which the row goes on
+joined-up : (d : Display) → MovesUp (row_going_on true d) (index (to_column 0 (row_going_on true d)))
+joined-up d = first-up (row_going_on true d)
 
-joined-up : (d : Display) → IsScreen d → d.top ≡ 0 → d.is_alternate ≡ false
-    → (index (to_column 0 (row_going_on true d))).display.cells ≡ (rows_up (leaving_by_index d) 0 d.bottom (row_going_on true d)).cells
-unfolding leaving_by_index leaving_up
-joined-up d s top main = first-up (row_going_on true d) (kept-going_on true d s) top main
+wrap-if : (a b c : Bool) (d j : Display) (x : Step) → MovesUp j x
+    → MovesUp (if a && b && c then j else d) (record {
+      display = if a then (if b then (if c then x else stays settled d) else unchanged d).display else d;
+      left = if a && b && c then x.left else [];
+    })
+wrap-if true true true d j x it = record { cells = it.cells; rows = it.rows }
+wrap-if true true false d j x it = still d _ refl refl
+wrap-if true false c d j x it = still d _ refl refl
+wrap-if false b c d j x it = still d _ refl refl
 
-printed-up : (c : ℕ) (s : State) → IsScreen s.display → s.display.top ≡ 0 → s.display.is_alternate ≡ false
-    → (once_scrolled (print c) s).cells ≡ (rows_up (leaving (print c) s.display) 0 s.display.bottom (before_leaving (print c) s.display)).cells
+-- what a call does before the character that it prints is put, if it prints one
+abbrev scrolling_of : Call → State → Step
+scrolling_of call s = record { display = once_scrolled call s; left = rows_left call s }
+
+printed-up : (c : ℕ) (s : State) → MovesUp (before_scroll (print c) s.display) (scrolling_of (print c) s)
 unfolding wrapped is_wrapping
-printed-up c s screen top main =
+printed-up c s =
     let d : Display = s.display in
-    wrap-if (is_shown c && not (columns c == 0)) (nat_lt d.width (d.cursor.column + columns c)) d.wraps
-    (index (to_column 0 (row_going_on true d))) (record { display = settled d; left = [] }) (row_going_on true d) d (leaving_by_index d) d.bottom
-    (joined-up d screen top main) (sym (up-none d)) (sym (up-none d))
+    subst (λ rows. MovesUp (before_scroll (print c) d) (record { display = once_scrolled (print c) s; left = rows })) (sym (printed-left c d))
+    (wrap-if (is_shown c && not (columns c == 0)) (nat_lt d.width (d.cursor.column + columns c)) d.wraps d (row_going_on true d)
+    (index (to_column 0 (row_going_on true d))) (joined-up d))
 
-begun-other : (final : ℕ) (d : Display) → final ≢ 0x63 → before_escape [] final d ≡ d
-unfolding before_escape
-begun-other final d other = ap (λ t. if t then main_screen d else d) (ne_eqb final 0x63 other)
+moves-up : (s : State) (call : Call) → KeepsRows call → MovesUp (before_scroll call s.display) (scrolling_of call s)
+unfolding designated
+moves-up s (print c) keeps = printed-up c s
+moves-up s (execute byte) keeps = executed-up byte s.display
+moves-up s (csi_dispatch groups [] false final) keeps =
+    subst (MovesUp s.display) (sym (step-sequence groups final s.last s.display (no-repeat final keeps.0)))
+    (control-up (function_of final) groups s.display keeps.1)
+moves-up s (csi_dispatch groups (mark ∷ marks) false final) keeps = absurd keeps
+moves-up s (csi_dispatch groups intermediates true final) keeps = still s.display _ refl refl
+moves-up s (esc_dispatch [] false final) keeps = escaped-up final s.display keeps
+moves-up s (esc_dispatch (mark ∷ []) false final) keeps = still s.display _ refl (charset-cells mark final s.display)
+moves-up s (esc_dispatch (mark ∷ other ∷ others) false final) keeps = still s.display _ refl refl
+moves-up s (esc_dispatch intermediates true final) keeps = still s.display _ refl refl
+moves-up s (hook groups intermediates ignore final) keeps = still s.display _ refl refl
+moves-up s (put byte) keeps = still s.display _ refl refl
+moves-up s unhook keeps = still s.display _ refl refl
+moves-up s (osc_dispatch parts bell) keeps = still s.display _ refl refl
 
-moved-up : (s : State) (call : Call) → IsScreen s.display → KeepsRows call → s.display.top ≡ 0 → s.display.is_alternate ≡ false
-    → (once_scrolled call s).cells ≡ (rows_up (leaving call s.display) 0 s.display.bottom (before_leaving call s.display)).cells
-unfolding leaving_by_sequence leaving_by_escape before_escape designated
-moved-up s (print c) screen keeps top main = printed-up c s screen top main
-moved-up s (execute byte) screen keeps top main = executed-up byte s.display _ refl screen top main
-moved-up s (csi_dispatch groups [] false final) screen keeps top main =
-    ap (λ (e : Step). e.display.cells) (step-sequence groups final s.last s.display (no-repeat final keeps.0))
-    ∙ control-up (function_of final) groups s.display screen top main keeps.1
-moved-up s (csi_dispatch groups [] true final) screen keeps top main = sym (up-none s.display)
-moved-up s (csi_dispatch groups (mark ∷ marks) false final) screen keeps top main = absurd keeps
-moved-up s (csi_dispatch groups (mark ∷ marks) true final) screen keeps top main = sym (up-none s.display)
-moved-up s (esc_dispatch [] false final) screen keeps top main =
-    escaped-up final s.display _ refl keeps screen top main
-    ∙ ap (λ (e : Display). (rows_up (leaving_by_escape [] final s.display) 0 s.display.bottom e).cells) (sym (begun-other final s.display keeps.1))
-moved-up s (esc_dispatch [] true final) screen keeps top main = sym (up-none s.display)
-moved-up s (esc_dispatch (mark ∷ []) false final) screen keeps top main = charset-cells mark final s.display ∙ sym (up-none s.display)
-moved-up s (esc_dispatch (mark ∷ other ∷ others) false final) screen keeps top main = sym (up-none s.display)
-moved-up s (esc_dispatch (mark ∷ marks) true final) screen keeps top main = sym (up-none s.display)
-moved-up s (hook groups intermediates ignore final) screen keeps top main = sym (up-none s.display)
-moved-up s (put byte) screen keeps top main = sym (up-none s.display)
-moved-up s unhook screen keeps top main = sym (up-none s.display)
-moved-up s (osc_dispatch parts bell) screen keeps top main = sym (up-none s.display)
+still-screen : (call : Call) (d : Display) → IsScreen d → IsScreen (before_scroll call d)
+still-screen (print c) d screen = kept-if (is_wrapping c d) (row_going_on true d) d (λ is. kept-going_on true d screen) (λ no. screen)
+still-screen call d screen = screen
 
-same-before : (call : Call) (d : Display) → KeepsRows call → before_leaving call d ≡ before_scroll call d
-unfolding before_escape
-same-before (print c) d keeps = refl
-same-before (execute byte) d keeps = refl
-same-before (csi_dispatch groups intermediates ignore final) d keeps = refl
-same-before (esc_dispatch [] false final) d keeps = begun-other final d keeps.1
-same-before (esc_dispatch (mark ∷ marks) false final) d keeps = refl
-same-before (esc_dispatch intermediates true final) d keeps = refl
-same-before (hook groups intermediates ignore final) d keeps = refl
-same-before (put byte) d keeps = refl
-same-before unhook d keeps = refl
-same-before (osc_dispatch parts bell) d keeps = refl
+frame-if : (t : Bool) (d : Display) → (let e : Display = if t then row_going_on true d else d in (e.top ≡ d.top) × (e.bottom ≡ d.bottom) × (e.is_alternate ≡ d.is_alternate))
+frame-if true d = (refl, refl, refl)
+frame-if false d = (refl, refl, refl)
+
+-- before a call scrolls, the margins and the screen are as they were
+same-frame : (call : Call) (d : Display) → ((before_scroll call d).top ≡ d.top) × ((before_scroll call d).bottom ≡ d.bottom) × ((before_scroll call d).is_alternate ≡ d.is_alternate)
+same-frame (print c) d = frame-if (is_wrapping c d) d
+same-frame call d = (refl, refl, refl)
 
 pub rows-up : (s : State) (call : Call) → IsScreen s.display → KeepsRows call → s.display.top ≡ 0 → s.display.is_alternate ≡ false
     → (once_scrolled call s).cells ≡ (rows_up (length (rows_left call s)) 0 s.display.bottom (before_scroll call s.display)).cells
 rows-up s call screen keeps top main =
-    moved-up s call screen keeps top main
-    ∙ ap₂ (λ n (e : Display). (rows_up n 0 s.display.bottom e).cells) (sym (length-left call s)) (same-before call s.display keeps)
+    let same = same-frame call s.display in
+    (moves-up s call keeps).cells (still-screen call s.display screen) (same.0 ∙ top) (same.2 ∙ main)
+    ∙ ap (λ n. (rows_up (length (rows_left call s)) 0 n (before_scroll call s.display)).cells) same.1
 
 -- and they are the first
 pub rows-first : (s : State) (call : Call) → KeepsRows call → rows_left call s ≡ first_rows (length (rows_left call s)) (before_scroll call s.display)
-rows-first s call keeps =
-    rows_left-is call s ∙ ap₂ (λ n (e : Display). first_rows n e) (sym (length-left call s)) (same-before call s.display keeps)
+rows-first s call keeps = (moves-up s call keeps).rows

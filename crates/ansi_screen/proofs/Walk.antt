@@ -1,12 +1,14 @@
--- The walk over the table of `After`: what each call does is done in changes of few kinds (`KeptLemmas`). So what each
--- change keeps, each call keeps.
-use Rattle.std.proofs.Common.{◌≡◌, ℕ, zero, suc, ◌+◌, ◌-◌, ◌<◌, ◌≤◌, Bool, true, false, List, [], ◌∷◌, length, set, refl, arith}
-use Rattle.std.specs.Prelude.{⊤, min, max, nat_lt, nat_le, ◌==◌, ◌&&◌, ◌||◌, replicate, if◌then◌else◌, Option, None, Some}
+-- The walk over the table of `After`: what each call does is done in changes of few kinds (`KeptLemmas`), and rows leave
+-- by it in few ways. So what each change keeps, each call keeps; and what holds of rows that leave in each way, holds of
+-- those that leave by each call.
+use Rattle.std.proofs.Common.{◌≡◌, ℕ, zero, suc, ◌+◌, ◌-◌, ◌<◌, ◌≤◌, Bool, true, false, List, [], ◌∷◌, length, set, refl, ap, subst, arith}
+use Rattle.std.specs.Prelude.{⊤, min, max, nat_lt, nat_le, ◌==◌, ◌&&◌, ◌||◌, not, replicate, if◌then◌else◌, Option, None, Some}
 use Rattle.std.specs.Fn.{iterate}
 use Rattle.std.proofs.lemmas.List.{length-set, length-replicate}
-use Rattle.std.proofs.lemmas.Bool.{and_parts, eqb-true, leb-true}
+use Rattle.std.proofs.lemmas.Bool.{and_parts, eqb-true, leb-true, not-true}
 use borrow.Author.Tests.{ltb-true, ltb-false, eqb-false}
 use Rattle.anstyle_parse.specs.Stream.Call.{Call, print, execute, hook, put as put_byte, unhook, osc_dispatch, csi_dispatch, esc_dispatch}
+use Rattle.ansi_screen.specs.declared.cell.Cell.{Cell}
 use Rattle.ansi_screen.specs.declared.function.Edit.{Edit}
 use Rattle.ansi_screen.specs.declared.function.Edit.TheVariants.{InsertCharacters, EraseInDisplay, EraseInLine, InsertLines, DeleteLines, DeleteCharacters, EraseCharacters}
 use Rattle.ansi_screen.specs.declared.function.Move.{Move}
@@ -20,7 +22,8 @@ use Rattle.ansi_screen.specs.Display.{Display, here, row_start, row_end}
 use Rattle.ansi_screen.specs.State.{Step}
 use Rattle.ansi_screen.specs.Links.{links_after, link_after}
 use Rattle.ansi_screen.specs.Moves.{to_row, to_column, settled, up, down, to_line, line_of, to_position, tabbed, tabbed_back, stop_before, column_of, with_stop, cleared_stops}
-use Rattle.ansi_screen.specs.Edits.{with_cells, row_goes_on, row_going_on, erased_cells, erased_part, erased_display, erased_line, erased_characters, deleted_characters, inserted_characters, rows_up, rows_down, scrolled_up, scrolled_down, is_in_margins, inserted_lines, deleted_lines, index, reverse_index, row_above_ended, erases_from_row, erases_first}
+use Rattle.ansi_screen.specs.Text.{first_rows, printed_rows}
+use Rattle.ansi_screen.specs.Edits.{with_cells, row_goes_on, row_going_on, erased_cells, erased_part, left_by_erase, left_by_scroll, erases_all, swapped, main_screen, erased_display, erased_line, erased_characters, deleted_characters, inserted_characters, rows_up, rows_down, scrolled_up, scrolled_down, is_in_margins, inserted_lines, deleted_lines, index, reverse_index, row_above_ended, erases_from_row, erases_first}
 use Rattle.ansi_screen.specs.Widths.{is_shown, columns}
 use Rattle.ansi_screen.specs.Print.{wrapped, with_room, with_cells_of, with_glyph, put, marked, shown, draws, printed, printed_again}
 use Rattle.ansi_screen.specs.Modes.{with_charset, restored, with_origin, with_margins, to_alternate, to_main, with_alternate, softly_reset, with_private_mode, with_mode, with_modes, first_field}
@@ -99,13 +102,18 @@ long-above : (t : Bool) (d : Display) → length (if t then going_on false (row_
 long-above true d = length-going_on false (row_start d) d.cells
 long-above false d = refl
 
+-- What a display has after a step, and what the rows that leave by it have.
+pub record Turned (P : Display → Type 0) (R : List (List Cell) → Type 0) (step : Step) : Type 0 where
+  pub keeps : P step.display
+  pub leaves : R step.left
+
+shows-main : (d : Display) → d.is_alternate ≡ false → main_screen d ≡ d
+shows-main d main = ap (λ t. if t then swapped d else d) main
+
 module _ (prints : ℕ → Type 0) (switches : Type 0) (P : Display → Type 0) (closed : (d e : Display) → Change prints switches d e → P d → P e) where
-  -- what a display has, another one has too: by a function, and after a step
+  -- what a display has, another one has too
   abbrev pub Walk : (Display → Display) → Display → Type 0
   Walk f d = P d → P (f d)
-
-  abbrev pub Turn : (Display → Step) → Display → Type 0
-  Turn f d = P d → P (f d).display
 
   stay : {d : Display} → P d → P d
   stay s = s
@@ -113,17 +121,12 @@ module _ (prints : ℕ → Type 0) (switches : Type 0) (P : Display → Type 0) 
   by : {d a : Display} → Change prints switches d a → P d → P a
   by {d} {a} change = closed d a change
 
-  next : {d a b : Display} → (P d → P a) → (P a → P b) → P d → P b
+  next : {A B C : Type 0} → (A → B) → (B → C) → A → C
   next first second = λ s. second (first s)
 
   either : (t : Bool) {d a b : Display} → (t ≡ true → P d → P a) → (t ≡ false → P d → P b) → P d → P (if t then a else b)
   either true first second = first refl
   either false first second = second refl
-
-  pick : (t : Bool) {d : Display} (a b : Step) → (t ≡ true → P d → P a.display) → (t ≡ false → P d → P b.display)
-      → P d → P (if t then a else b).display
-  pick true a b first second = first refl
-  pick false a b first second = second refl
 
   times : (step : Display → Display) → ((d : Display) → Walk step d) → (n : ℕ) (d : Display) → Walk (iterate step n) d
   times step walk zero d = stay
@@ -191,18 +194,6 @@ module _ (prints : ℕ → Type 0) (switches : Type 0) (P : Display → Type 0) 
   walk-above : (begun : Bool) (d : Display) → Walk (row_above_ended begun) d
   walk-above begun d = walk-above_at (begun && nat_lt 0 d.cursor.row) d
 
-  walk-erased_display : (kind : ℕ) (d : Display) → IsSettled d → Turn (erased_display kind) d
-  unfolding erased_display erases_from_row
-  walk-erased_display kind d inside =
-      let ended : Display = row_above_ended (erases_from_row kind d) d in
-      next (walk-above (erases_from_row kind d) d)
-      (walk-part kind 0 (length d.cells) ended
-      (λ s.
-      let column : d.cursor.column < d.width = inside s.sized.two_columns in
-      let end : row_end d ≤ length ended.cells = row_end-inside ended s in
-      let long : length ended.cells ≡ length d.cells = long-above (erases_from_row kind d && nat_lt 0 d.cursor.row) d in
-      (omega arith, omega (arith, long), omega (arith, long))))
-
   walk-erased_line : (kind : ℕ) (d : Display) → IsSettled d → Walk (erased_line kind) d
   unfolding erased_line erases_first
   walk-erased_line kind d inside =
@@ -243,9 +234,6 @@ module _ (prints : ℕ → Type 0) (switches : Type 0) (P : Display → Type 0) 
   unfolding rows_down
   walk-rows_down n first last d within = by (rows_on n first last within)
 
-  walk-scrolled_up : (n : ℕ) (d : Display) → Turn (scrolled_up n) d
-  walk-scrolled_up n d = walk-rows_up n d.top d.bottom d (λ s. let order : d.top < d.bottom = s.sized.margins in (omega arith, s.sized.margins_within))
-
   walk-scrolled_down : (n : ℕ) (d : Display) → Walk (scrolled_down n) d
   walk-scrolled_down n d =
       walk-rows_down n d.top d.bottom d (λ s. let order : d.top < d.bottom = s.sized.margins in (omega arith, s.sized.margins_within))
@@ -264,17 +252,6 @@ module _ (prints : ℕ → Type 0) (switches : Type 0) (P : Display → Type 0) 
       next (walk-rows_up n d.cursor.row d.bottom d (λ s. (omega (arith, below.1), s.sized.margins_within))) (walk-column 0 (rows_up n d.cursor.row d.bottom d)))
       (λ no. stay)
 
-  walk-index : (d : Display) → Turn index d
-  unfolding index
-  walk-index d =
-      pick (d.cursor.row + 1 == d.bottom) _ _ (λ is. walk-scrolled_up 1 d)
-      (λ no. walk-row (d.cursor.row + 1) d
-      (λ s relative.
-      let inside : (d.top ≤ d.cursor.row) × (d.cursor.row < d.bottom) = s.in_margins relative in
-      let end : d.bottom ≤ d.height = s.sized.margins_within in
-      let other_row : d.cursor.row + 1 ≡ d.bottom → ⊥ = eqb-false (d.cursor.row + 1) d.bottom no in
-      (omega arith, omega arith)))
-
   walk-reverse : (d : Display) → Walk reverse_index d
   unfolding reverse_index
   walk-reverse d =
@@ -287,13 +264,6 @@ module _ (prints : ℕ → Type 0) (switches : Type 0) (P : Display → Type 0) 
       (omega arith, omega arith)))
 
   -- printing
-  walk-wrapped : (n : ℕ) (d : Display) → Turn (wrapped n) d
-  unfolding wrapped
-  walk-wrapped n d =
-      let joined : Display = row_going_on true d in
-      pick (nat_lt d.width (d.cursor.column + n)) _ _ (λ is. pick d.wraps _ _ (λ on. next (next (walk-going_on true d) (walk-column 0 joined)) (walk-index (to_column 0 joined))) (λ off. walk-settled d))
-      (λ fits. stay)
-
   module _ (c : ℕ) (drawing : Bool) (may : prints c) (is : is_shown c ≡ true) where
     walk-glyph : (n : ℕ) (d : Display) → columns (drawn_if drawing c) ≡ n → 1 ≤ n → n ≤ 2 → d.cursor.column + n ≤ d.width → Walk (with_glyph n (drawn_if drawing c)) d
     unfolding with_glyph with_cells_of
@@ -315,27 +285,6 @@ module _ (prints : ℕ → Type 0) (switches : Type 0) (P : Display → Type 0) 
     walk-marked : (d : Display) → columns (drawn_if drawing c) ≡ 0 → Walk (marked (drawn_if drawing c)) d
     unfolding marked
     walk-marked d none = either (d.cursor.column == 0) (λ first. stay) (λ no. by (add_mark c drawing may is none))
-
-    walk-shown : (d : Display) → Turn (shown (drawn_if drawing c)) d
-    unfolding shown
-    walk-shown d =
-        let n : ℕ = columns (drawn_if drawing c) in
-        pick (n == 0) _ _ (λ none. walk-marked d (eqb-true n 0 none))
-        (λ no. let some : n ≡ 0 → ⊥ = eqb-false n 0 no in
-        next (walk-wrapped n d) (walk-put n (wrapped n d).display refl (omega arith) (columns-few (drawn_if drawing c) _ _ refl refl)))
-
-  pub walk-printed : (c : ℕ) (d : Display) → prints c → Turn (printed c) d
-  unfolding printed
-  walk-printed c d may = pick (is_shown c) _ _ (λ is. walk-shown c (draws d.cursor.charsets) may is d) (λ none. stay)
-
-  walk-again : (c : ℕ) (d : Display) → prints c → Walk (printed_again c) d
-  unfolding printed_again
-  walk-again c d may = either (nat_le (d.cursor.column + columns c) d.width) (λ fits. walk-printed c d may) (λ full. stay)
-
-  walk-repeated : (n : ℕ) (last : Option ℕ) (d : Display) → MayRepeat prints last → Walk (repeated n last) d
-  unfolding repeated
-  walk-repeated n None d may = stay
-  walk-repeated n (Some c) d may = times (printed_again c) (λ x. walk-again c x may) (min n d.width) d
 
   -- styles, character sets and saved cursors
   walk-charset : (sign final : ℕ) (d : Display) → Walk (with_charset sign final) d
@@ -403,17 +352,6 @@ module _ (prints : ℕ → Type 0) (switches : Type 0) (P : Display → Type 0) 
   walk-modes how walk [] d = stay
   walk-modes how walk (group ∷ groups) d = next (walk (first_field group) d) (walk-modes how walk groups (how (first_field group) d))
 
-  -- control functions
-  walk-edited : (edit : Edit) (n : ℕ) (d : Display) → IsSettled d → Turn (edited edit n) d
-  unfolding edited
-  walk-edited InsertCharacters n d inside = walk-inserted (count n) d inside
-  walk-edited EraseInDisplay n d inside = walk-erased_display n d inside
-  walk-edited EraseInLine n d inside = walk-erased_line n d inside
-  walk-edited InsertLines n d inside = walk-inserted_lines (count n) d
-  walk-edited DeleteLines n d inside = walk-deleted_lines (count n) d
-  walk-edited DeleteCharacters n d inside = walk-deleted (count n) d inside
-  walk-edited EraseCharacters n d inside = walk-erased_characters (count n) d inside
-
   walk-moved : (move : Move) (n column : ℕ) (d : Display) → Walk (moved move n column) d
   unfolding moved
   walk-moved Up n column d = walk-up (count n) d
@@ -428,73 +366,183 @@ module _ (prints : ℕ → Type 0) (switches : Type 0) (P : Display → Type 0) 
   walk-moved Position n column d = walk-position (count n - 1) (count column - 1) d
   walk-moved BackTab n column d = times tabbed_back walk-tabbed_back (min (count n) d.width) d
 
-  walk-set : (setting : Setting) (groups : List (List ℕ)) (d : Display) → Turn (set_by setting groups) d
-  unfolding set_by
-  walk-set Rendition groups d = by (select groups)
-  walk-set SetModes groups d = walk-modes (with_mode true) (walk-mode true) groups d
-  walk-set ResetModes groups d = walk-modes (with_mode false) (walk-mode false) groups d
-  walk-set Margins groups d = walk-margins (first_of groups) (second_of groups) d
-  walk-set ScrollUp groups d = walk-scrolled_up (count (first_of groups)) d
-  walk-set ScrollDown groups d = walk-scrolled_down (count (first_of groups)) d
-  walk-set ForwardTab groups d = times tabbed walk-tabbed (min (count (first_of groups)) d.width) d
-  walk-set ClearStops groups d = walk-cleared (first_of groups) d
-  walk-set SaveCursor groups d = pick (is_bare groups) _ _ (λ bare. by save) (λ numbers. stay)
-  walk-set RestoreCursor groups d = pick (is_bare groups) _ _ (λ bare. walk-restored d) (λ numbers. stay)
+  -- So has the display after a step; and the rows that leave by it have what is so of none, of the first rows of such a
+  -- display, and of those that are printed on its main screen.
+  module _ (R : List (List Cell) → Type 0) (none : R []) (scrolled : (n : ℕ) (d : Display) → P d → n ≤ d.bottom → R (first_rows n d))
+      (taken : (d : Display) → P d → R (printed_rows (main_screen d))) where
+    abbrev pub Turn : (Display → Step) → Display → Type 0
+    Turn f d = P d → Turned P R (f d)
 
-  walk-controlled : (function : Function) (groups : List (List ℕ)) (d : Display) → Turn (controlled function groups) d
-  unfolding controlled
-  walk-controlled (Edits edit) groups d =
-      pick (is_known edit (first_of groups)) _ _ (λ known. next (walk-settled d) (walk-edited edit (first_of groups) (settled d) (is-settled d))) (λ unknown. stay)
-  walk-controlled (Moves move) groups d =
-      next (walk-settled d) (walk-moved move (first_of groups) (second_of groups) (settled d))
-  walk-controlled (Sets setting) groups d = walk-set setting groups d
-  walk-controlled Nothing groups d = stay
+    -- no row leaves
+    quiet : {A : Type 0} {d : Display} → (A → P d) → A → Turned P R (record { display = d; left = [] })
+    quiet walk = λ s. record { keeps = walk s; leaves = none }
 
-  walk-sequenced : (groups : List (List ℕ)) (intermediates : List ℕ) (final : ℕ) (d : Display) → MaySet switches intermediates → Turn (sequenced groups intermediates final) d
-  unfolding sequenced
-  walk-sequenced groups [] final d may = walk-controlled (function_of final) groups d
-  walk-sequenced groups (sign ∷ []) final d may =
-      pick (sign == 0x3F && final == 0x68) _ _ (λ is. walk-modes (with_private_mode true) (walk-private may true) groups d)
-      (λ a. pick (sign == 0x3F && final == 0x6C) _ _ (λ is. walk-modes (with_private_mode false) (walk-private may false) groups d)
-      (λ b. pick (sign == 0x21 && final == 0x70) _ _ (λ is. walk-softly d) (λ none. stay)))
-  walk-sequenced groups (sign ∷ second ∷ others) final d may = stay
+    rest : {d : Display} → P d → Turned P R (record { display = d; left = [] })
+    rest s = record { keeps = s; leaves = none }
 
-  walk-executed : (byte : ℕ) (d : Display) → Turn (executed byte) d
-  unfolding executed
-  walk-executed byte d =
-      pick (byte == 0x08) _ _ (λ is. next (walk-settled d) (walk-column ((settled d).cursor.column - 1) (settled d)))
-      (λ a. pick (byte == 0x09) _ _ (λ is. walk-tabbed d)
-      (λ b. pick (byte == 0x0A || byte == 0x0B || byte == 0x0C) _ _ (λ is. next (walk-settled d) (walk-index (settled d)))
-      (λ e. pick (byte == 0x0D) _ _ (λ is. walk-column 0 d)
-      (λ f. pick (byte == 0x0E) _ _ (λ is. by (choose _))
-      (λ g. pick (byte == 0x0F) _ _ (λ is. by (choose _)) (λ none. stay))))))
+    pick : (t : Bool) {A : Type 0} {a b : Step} → (t ≡ true → A → Turned P R a) → (t ≡ false → A → Turned P R b)
+        → A → Turned P R (if t then a else b)
+    pick true first second = first refl
+    pick false first second = second refl
 
-  walk-escaped : (final : ℕ) (d : Display) → Turn (escaped final) d
-  unfolding escaped
-  walk-escaped final d =
-      pick (final == 0x37) _ _ (λ is. by save)
-      (λ a. pick (final == 0x38) _ _ (λ is. walk-restored d)
-      (λ b. pick (final == 0x44) _ _ (λ is. next (walk-settled d) (walk-index (settled d)))
-      (λ e. pick (final == 0x45) _ _ (λ is. next (walk-column 0 d) (walk-index (to_column 0 d)))
-      (λ f. pick (final == 0x48) _ _ (λ is. walk-stop true d)
-      (λ g. pick (final == 0x4D) _ _ (λ is. next (walk-settled d) (walk-reverse (settled d)))
-      (λ h. pick (final == 0x63) _ _ (λ is. by renew) (λ none. stay)))))))
+    rows-if : (t : Bool) (rows : List (List Cell)) → (t ≡ true → R rows) → R (if t then rows else [])
+    rows-if true rows leave = leave refl
+    rows-if false rows leave = none
 
-  walk-designated : (intermediates : List ℕ) (final : ℕ) (d : Display) → Turn (designated intermediates final) d
-  unfolding designated
-  walk-designated [] final d = walk-escaped final d
-  walk-designated (sign ∷ []) final d = walk-charset sign final d
-  walk-designated (sign ∷ second ∷ others) final d = stay
+    turn-erased_display : (kind : ℕ) (d : Display) → IsSettled d → Turn (erased_display kind) d
+    unfolding erased_display erases_from_row left_by_erase
+    turn-erased_display kind d inside =
+        let ended : Display = row_above_ended (erases_from_row kind d) d in
+        let keeps : Walk (λ x. erased_part kind 0 (length x.cells) (row_above_ended (erases_from_row kind x) x)) d =
+        next (walk-above (erases_from_row kind d) d)
+        (walk-part kind 0 (length d.cells) ended
+        (λ s.
+        let column : d.cursor.column < d.width = inside s.sized.two_columns in
+        let end : row_end d ≤ length ended.cells = row_end-inside ended s in
+        let long : length ended.cells ≡ length d.cells = long-above (erases_from_row kind d && nat_lt 0 d.cursor.row) d in
+        (omega arith, omega (arith, long), omega (arith, long)))) in
+        λ s. record {
+          keeps = keeps s;
+          leaves = rows-if (erases_all kind d && not d.is_alternate) (printed_rows d)
+              (λ all. subst (λ x. R (printed_rows x)) (shows-main d (not-true d.is_alternate (and_parts (erases_all kind d) (not d.is_alternate) all).1)) (taken d s));
+        }
 
-  -- each call
-  pub walk : (call : Call) (last : Option ℕ) (d : Display) → MayBe prints switches call → MayRepeat prints last → Turn (step_of call last) d
-  walk (print c) last d may repeats = walk-printed c d may
-  walk (execute byte) last d may repeats = walk-executed byte d
-  walk (csi_dispatch groups intermediates ignore final) last d may repeats =
-      pick ignore _ _ (λ more. stay)
-      (λ whole. pick (is_repeat intermediates final) _ _ (λ is. walk-repeated (count (first_of groups)) last d repeats) (λ no. walk-sequenced groups intermediates final d may))
-  walk (esc_dispatch intermediates ignore final) last d may repeats = pick ignore _ _ (λ more. stay) (λ whole. walk-designated intermediates final d)
-  walk (hook groups intermediates ignore final) last d may repeats = stay
-  walk (put_byte byte) last d may repeats = stay
-  walk unhook last d may repeats = stay
-  walk (osc_dispatch parts bell) last d may repeats = by (set_links (links_after parts d.links) (link_after parts d.links d.link))
+    turn-scrolled_up : (n : ℕ) (d : Display) → Turn (scrolled_up n) d
+    unfolding left_by_scroll
+    turn-scrolled_up n d = λ s. record {
+      keeps = walk-rows_up n d.top d.bottom d (λ screen. let order : d.top < d.bottom = screen.sized.margins in (omega arith, screen.sized.margins_within)) s;
+      leaves = rows-if (d.top == 0 && not d.is_alternate) (first_rows (min n d.bottom) d) (λ top. scrolled (min n d.bottom) d s (omega arith));
+    }
+
+    turn-index : (d : Display) → Turn index d
+    unfolding index
+    turn-index d =
+        pick (d.cursor.row + 1 == d.bottom) (λ is. turn-scrolled_up 1 d)
+        (λ no. quiet (walk-row (d.cursor.row + 1) d
+        (λ s relative.
+        let inside : (d.top ≤ d.cursor.row) × (d.cursor.row < d.bottom) = s.in_margins relative in
+        let end : d.bottom ≤ d.height = s.sized.margins_within in
+        let other_row : d.cursor.row + 1 ≡ d.bottom → ⊥ = eqb-false (d.cursor.row + 1) d.bottom no in
+        (omega arith, omega arith))))
+
+    -- printing
+    turn-wrapped : (n : ℕ) (d : Display) → Turn (wrapped n) d
+    unfolding wrapped
+    turn-wrapped n d =
+        let joined : Display = row_going_on true d in
+        pick (nat_lt d.width (d.cursor.column + n)) (λ is. pick d.wraps (λ on. next (next (walk-going_on true d) (walk-column 0 joined)) (turn-index (to_column 0 joined))) (λ off. quiet (walk-settled d)))
+        (λ fits. rest)
+
+    turn-shown : (c : ℕ) (drawing : Bool) (d : Display) → prints c → is_shown c ≡ true → Turn (shown (drawn_if drawing c)) d
+    unfolding shown
+    turn-shown c drawing d may is =
+        let n : ℕ = columns (drawn_if drawing c) in
+        pick (n == 0) (λ mark. quiet (walk-marked c drawing may is d (eqb-true n 0 mark)))
+        (λ no s. let some : n ≡ 0 → ⊥ = eqb-false n 0 no in
+        let before : Turned P R (wrapped n d) = turn-wrapped n d s in
+        record {
+          keeps = walk-put c drawing may is n (wrapped n d).display refl (omega arith) (columns-few (drawn_if drawing c) _ _ refl refl) before.keeps;
+          leaves = before.leaves;
+        })
+
+    turn-printed : (c : ℕ) (d : Display) → prints c → Turn (printed c) d
+    unfolding printed
+    turn-printed c d may = pick (is_shown c) (λ is. turn-shown c (draws d.cursor.charsets) d may is) (λ unseen. rest)
+
+    walk-again : (c : ℕ) (d : Display) → prints c → Walk (printed_again c) d
+    unfolding printed_again
+    walk-again c d may = either (nat_le (d.cursor.column + columns c) d.width) (λ fits s. (turn-printed c d may s).keeps) (λ full. stay)
+
+    walk-repeated : (n : ℕ) (last : Option ℕ) (d : Display) → MayRepeat prints last → Walk (repeated n last) d
+    unfolding repeated
+    walk-repeated n None d may = stay
+    walk-repeated n (Some c) d may = times (printed_again c) (λ x. walk-again c x may) (min n d.width) d
+
+    -- control functions
+    turn-edited : (edit : Edit) (n : ℕ) (d : Display) → IsSettled d → Turn (edited edit n) d
+    unfolding edited
+    turn-edited InsertCharacters n d inside = quiet (walk-inserted (count n) d inside)
+    turn-edited EraseInDisplay n d inside = turn-erased_display n d inside
+    turn-edited EraseInLine n d inside = quiet (walk-erased_line n d inside)
+    turn-edited InsertLines n d inside = quiet (walk-inserted_lines (count n) d)
+    turn-edited DeleteLines n d inside = quiet (walk-deleted_lines (count n) d)
+    turn-edited DeleteCharacters n d inside = quiet (walk-deleted (count n) d inside)
+    turn-edited EraseCharacters n d inside = quiet (walk-erased_characters (count n) d inside)
+
+    turn-set : (setting : Setting) (groups : List (List ℕ)) (d : Display) → Turn (set_by setting groups) d
+    unfolding set_by
+    turn-set Rendition groups d = quiet (by (select groups))
+    turn-set SetModes groups d = quiet (walk-modes (with_mode true) (walk-mode true) groups d)
+    turn-set ResetModes groups d = quiet (walk-modes (with_mode false) (walk-mode false) groups d)
+    turn-set Margins groups d = quiet (walk-margins (first_of groups) (second_of groups) d)
+    turn-set ScrollUp groups d = turn-scrolled_up (count (first_of groups)) d
+    turn-set ScrollDown groups d = quiet (walk-scrolled_down (count (first_of groups)) d)
+    turn-set ForwardTab groups d = quiet (times tabbed walk-tabbed (min (count (first_of groups)) d.width) d)
+    turn-set ClearStops groups d = quiet (walk-cleared (first_of groups) d)
+    turn-set SaveCursor groups d = pick (is_bare groups) (λ bare. quiet (by save)) (λ numbers. rest)
+    turn-set RestoreCursor groups d = pick (is_bare groups) (λ bare. quiet (walk-restored d)) (λ numbers. rest)
+
+    turn-controlled : (function : Function) (groups : List (List ℕ)) (d : Display) → Turn (controlled function groups) d
+    unfolding controlled
+    turn-controlled (Edits edit) groups d =
+        pick (is_known edit (first_of groups)) (λ known. next (walk-settled d) (turn-edited edit (first_of groups) (settled d) (is-settled d))) (λ unknown. rest)
+    turn-controlled (Moves move) groups d =
+        quiet (next (walk-settled d) (walk-moved move (first_of groups) (second_of groups) (settled d)))
+    turn-controlled (Sets setting) groups d = turn-set setting groups d
+    turn-controlled Nothing groups d = rest
+
+    turn-sequenced : (groups : List (List ℕ)) (intermediates : List ℕ) (final : ℕ) (d : Display) → MaySet switches intermediates → Turn (sequenced groups intermediates final) d
+    unfolding sequenced
+    turn-sequenced groups [] final d may = turn-controlled (function_of final) groups d
+    turn-sequenced groups (sign ∷ []) final d may =
+        pick (sign == 0x3F && final == 0x68) (λ is. quiet (walk-modes (with_private_mode true) (walk-private may true) groups d))
+        (λ a. pick (sign == 0x3F && final == 0x6C) (λ is. quiet (walk-modes (with_private_mode false) (walk-private may false) groups d))
+        (λ b. pick (sign == 0x21 && final == 0x70) (λ is. quiet (walk-softly d)) (λ unknown. rest)))
+    turn-sequenced groups (sign ∷ second ∷ others) final d may = rest
+
+    turn-executed : (byte : ℕ) (d : Display) → Turn (executed byte) d
+    unfolding executed
+    turn-executed byte d =
+        pick (byte == 0x08) (λ is. quiet (next (walk-settled d) (walk-column ((settled d).cursor.column - 1) (settled d))))
+        (λ a. pick (byte == 0x09) (λ is. quiet (walk-tabbed d))
+        (λ b. pick (byte == 0x0A || byte == 0x0B || byte == 0x0C) (λ is. next (walk-settled d) (turn-index (settled d)))
+        (λ e. pick (byte == 0x0D) (λ is. quiet (walk-column 0 d))
+        (λ f. pick (byte == 0x0E) (λ is. quiet (by (choose _)))
+        (λ g. pick (byte == 0x0F) (λ is. quiet (by (choose _))) (λ unknown. rest))))))
+
+    turn-escaped : (final : ℕ) (d : Display) → Turn (escaped final) d
+    unfolding escaped
+    turn-escaped final d =
+        pick (final == 0x37) (λ is. quiet (by save))
+        (λ a. pick (final == 0x38) (λ is. quiet (walk-restored d))
+        (λ b. pick (final == 0x44) (λ is. next (walk-settled d) (turn-index (settled d)))
+        (λ e. pick (final == 0x45) (λ is. next (walk-column 0 d) (turn-index (to_column 0 d)))
+        (λ f. pick (final == 0x48) (λ is. quiet (walk-stop true d))
+        (λ g. pick (final == 0x4D) (λ is. quiet (next (walk-settled d) (walk-reverse (settled d))))
+        (λ h. pick (final == 0x63) (λ is s. record { keeps = by renew s; leaves = taken d s }) (λ unknown. rest)))))))
+
+    turn-designated : (intermediates : List ℕ) (final : ℕ) (d : Display) → Turn (designated intermediates final) d
+    unfolding designated
+    turn-designated [] final d = turn-escaped final d
+    turn-designated (sign ∷ []) final d = quiet (walk-charset sign final d)
+    turn-designated (sign ∷ second ∷ others) final d = rest
+
+    -- each call
+    pub turn : (call : Call) (last : Option ℕ) (d : Display) → MayBe prints switches call → MayRepeat prints last → Turn (step_of call last) d
+    turn (print c) last d may repeats = turn-printed c d may
+    turn (execute byte) last d may repeats = turn-executed byte d
+    turn (csi_dispatch groups intermediates ignore final) last d may repeats =
+        pick ignore (λ more. rest)
+        (λ whole. pick (is_repeat intermediates final) (λ is. quiet (walk-repeated (count (first_of groups)) last d repeats)) (λ no. turn-sequenced groups intermediates final d may))
+    turn (esc_dispatch intermediates ignore final) last d may repeats = pick ignore (λ more. rest) (λ whole. turn-designated intermediates final d)
+    turn (hook groups intermediates ignore final) last d may repeats = rest
+    turn (put_byte byte) last d may repeats = rest
+    turn unhook last d may repeats = rest
+    turn (osc_dispatch parts bell) last d may repeats = quiet (by (set_links (links_after parts d.links) (link_after parts d.links d.link)))
+
+  -- the display alone
+  pub walk : (call : Call) (last : Option ℕ) (d : Display) → MayBe prints switches call → MayRepeat prints last → P d → P (step_of call last d).display
+  walk call last d may repeats s = (turn (λ rows. ⊤) tt (λ n d s few. tt) (λ d s. tt) call last d may repeats s).keeps
+
+  pub walk-printed : (c : ℕ) (d : Display) → prints c → P d → P (printed c d).display
+  walk-printed c d may s = (turn-printed (λ rows. ⊤) tt (λ n d s few. tt) (λ d s. tt) c d may s).keeps

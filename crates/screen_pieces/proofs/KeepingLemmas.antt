@@ -14,7 +14,6 @@ use Rattle.ansi_screen.specs.declared.cell.Cell.{Cell}
 use Rattle.ansi_screen.specs.After.{State, new_state, after, after_all}
 use Rattle.ansi_screen.specs.History.{Kept, keep_last, kept_after, kept_after_all, with_left}
 use Rattle.ansi_screen.specs.Leaving.{rows_left}
-use Rattle.ansi_screen.proofs.LeavingTable.{leaving, length-left}
 use Rattle.ansi_screen.proofs.LeftLemmas.{left_none, left_some, with_left-append}
 use Rattle.ansi_screen.proofs.SizeLemmas.{HasSize, sized-after, sized-after_all, few-leave}
 use Rattle.screen_answers.specs.Kept.{is_kept, rows_kept, all_kept}
@@ -59,8 +58,7 @@ few-kept keeps width height (call ∷ calls) s is =
       arith,
       length-append (rows_kept keeps call s) (all_kept keeps calls (after call s)),
       some-kept (is_kept keeps call) (rows_left call s),
-      length-left call s,
-      few-leave width height call s.display is,
+      few-leave width height call s is,
       few-kept keeps width height calls (after call s) (sized-after width height call s is),
       suc-mul (length calls) height,
     )

@@ -1,22 +1,20 @@
 -- Each row that leaves a screen has a cell in each column.
-use Rattle.std.proofs.Common.{◌≡◌, ◌≤◌, ◌<◌, ◌*◌, ℕ, zero, suc, Bool, true, false, List, [], ◌∷◌, length, drop, refl, sym, ◌∙◌, subst, length-take, length-drop, arith}
-use Rattle.std.specs.Prelude.{◌==◌, if◌then◌else◌}
+use Rattle.std.proofs.Common.{◌≡◌, ◌≤◌, ◌<◌, ◌*◌, ℕ, zero, suc, Bool, true, false, List, [], ◌∷◌, length, drop, refl, ◌∙◌, subst, length-take, length-drop, arith}
+use Rattle.std.specs.Prelude.{⊤, if◌then◌else◌}
 use Rattle.std.specs.List.{AllByRecursion}
-use Rattle.anstyle_parse.specs.Stream.Call.{Call, print, execute, hook, put, unhook, osc_dispatch, csi_dispatch, esc_dispatch}
+use Rattle.anstyle_parse.specs.Stream.Call.{Call}
 use Rattle.ansi_screen.specs.declared.cell.Cell.{Cell}
 use Rattle.ansi_screen.specs.After.{State, after}
 use Rattle.ansi_screen.specs.Display.{Display, IsSized, row_cells}
-use Rattle.ansi_screen.specs.Edits.{row_going_on}
 use Rattle.ansi_screen.specs.Edits.{swapped, main_screen}
-use Rattle.ansi_screen.specs.Text.{first_rows}
-use Rattle.ansi_screen.specs.Laws.{is_wrapping}
+use Rattle.ansi_screen.specs.Text.{first_rows, printed_count}
 use Rattle.ansi_screen.specs.Leaving.{rows_left, all_left}
 use Rattle.ansi_screen.specs.Reachable.{IsScreen}
 use Rattle.ansi_screen.proofs.CharacterLemmas.{all-append}
-use Rattle.ansi_screen.proofs.KeptCalls.{kept-after}
-use Rattle.ansi_screen.proofs.KeptLemmas.{kept-if, kept-going_on, row-inside}
-use Rattle.ansi_screen.proofs.SizeLemmas.{sized-after, few-leave}
-use Rattle.ansi_screen.proofs.LeavingTable.{leaving, before_escape, before_leaving, rows_left-is}
+use Rattle.ansi_screen.proofs.KeptCalls.{Any, any-call, any-repeat, kept-after}
+use Rattle.ansi_screen.proofs.KeptLemmas.{kept-change, row-inside}
+use Rattle.ansi_screen.proofs.Walk.{turn}
+use Rattle.ansi_screen.proofs.SizeLemmas.{HasSize, few-used, sized-change, sized-main, sized-after}
 use Rattle.screen_answers.specs.Kept.{is_kept, rows_kept, all_kept}
 use Rattle.screen_pieces.specs.History.{HasCells}
 
@@ -29,6 +27,9 @@ first-whole zero d sized few = tt
 first-whole (suc n) d sized few =
     all-append (HasCells d.width) (first_rows n d) (row_cells n d ∷ []) (first-whole n d sized (omega (arith, few)))
     (row-length n d sized (omega (arith, few)), tt)
+
+first-sized : (width n : ℕ) (d : Display) → IsSized d → n ≤ d.height → d.width ≡ width → AllByRecursion (HasCells width) (first_rows n d)
+first-sized width n d sized few wide = subst (λ w. AllByRecursion (HasCells w) (first_rows n d)) wide (first-whole n d sized few)
 
 sized-either : (t : Bool) (a b : Display) → IsSized a → IsSized b → IsSized (if t then a else b)
 sized-either true a b first second = first
@@ -53,57 +54,20 @@ sized-swapped d s = record {
   margins_within = s.margins_within;
 }
 
-sized-escape : (intermediates : List ℕ) (final : ℕ) (d : Display) → IsSized d → IsSized (before_escape intermediates final d)
-unfolding before_escape
-sized-escape [] final d s = sized-either (final == 0x63) (main_screen d) d (sized-either d.is_alternate (swapped d) d (sized-swapped d s) s) s
-sized-escape (mark ∷ marks) final d s = s
+sized-main-screen : (d : Display) → IsSized d → IsSized (main_screen d)
+sized-main-screen d s = sized-either d.is_alternate (swapped d) d (sized-swapped d s) s
 
-before-sized : (call : Call) (d : Display) → IsScreen d → IsSized (before_leaving call d)
-before-sized (print c) d is = (kept-if (is_wrapping c d) (row_going_on true d) d (λ _. kept-going_on true d is) (λ _. is)).sized
-before-sized (execute byte) d is = is.sized
-before-sized (csi_dispatch groups intermediates ignore final) d is = is.sized
-before-sized (esc_dispatch intermediates ignore final) d is =
-    sized-either ignore d (before_escape intermediates final d) is.sized (sized-escape intermediates final d is.sized)
-before-sized (hook groups intermediates ignore final) d is = is.sized
-before-sized (put byte) d is = is.sized
-before-sized unhook d is = is.sized
-before-sized (osc_dispatch parts bell) d is = is.sized
-
-same-if : (t : Bool) (d : Display) → ((if t then row_going_on true d else d).width ≡ d.width) × ((if t then row_going_on true d else d).height ≡ d.height)
-same-if true d = (refl, refl)
-same-if false d = (refl, refl)
-
-same-either : (t : Bool) (a b d : Display) → (a.width ≡ d.width) × (a.height ≡ d.height) → (b.width ≡ d.width) × (b.height ≡ d.height)
-    → ((if t then a else b).width ≡ d.width) × ((if t then a else b).height ≡ d.height)
-same-either true a b d first second = first
-same-either false a b d first second = second
-
-same-escape : (intermediates : List ℕ) (final : ℕ) (d : Display)
-    → ((before_escape intermediates final d).width ≡ d.width) × ((before_escape intermediates final d).height ≡ d.height)
-unfolding before_escape
-same-escape [] final d =
-    same-either (final == 0x63) (main_screen d) d d (same-either d.is_alternate (swapped d) d d (refl, refl) (refl, refl)) (refl, refl)
-same-escape (mark ∷ marks) final d = (refl, refl)
-
-before-same : (call : Call) (d : Display) → ((before_leaving call d).width ≡ d.width) × ((before_leaving call d).height ≡ d.height)
-before-same (print c) d = same-if (is_wrapping c d) d
-before-same (execute byte) d = (refl, refl)
-before-same (csi_dispatch groups intermediates ignore final) d = (refl, refl)
-before-same (esc_dispatch intermediates ignore final) d =
-    same-either ignore d (before_escape intermediates final d) d (refl, refl) (same-escape intermediates final d)
-before-same (hook groups intermediates ignore final) d = (refl, refl)
-before-same (put byte) d = (refl, refl)
-before-same unhook d = (refl, refl)
-before-same (osc_dispatch parts bell) d = (refl, refl)
-
+-- a screen of this size, and rows of a cell in each column
 left-whole : (call : Call) (s : State) → IsScreen s.display → AllByRecursion (HasCells s.display.width) (rows_left call s)
 left-whole call s is =
-    let d : Display = s.display in
-    let same = before-same call d in
-    let few : leaving call d ≤ d.height = few-leave d.width d.height call d (refl, refl, is.sized.margins_within) in
-    subst (λ rows. AllByRecursion (HasCells d.width) rows) (sym (rows_left-is call s))
-    (subst (λ w. AllByRecursion (HasCells w) (first_rows (leaving call d) (before_leaving call d))) same.0
-    (first-whole (leaving call d) (before_leaving call d) (before-sized call d is) (omega (arith, few, same.1))))
+    let w : ℕ = s.display.width in
+    let h : ℕ = s.display.height in
+    (turn Any ⊤ (λ d. IsScreen d × HasSize w h d) (λ d e change both. (kept-change Any ⊤ d e change both.0, sized-change w h d e change both.1))
+    (AllByRecursion (HasCells w)) tt
+    (λ n d both few. first-sized w n d both.0.sized (omega (arith, few, both.1.1, both.1.2)) both.1.0)
+    (λ d both. let main : Display = main_screen d in
+    first-sized w (printed_count main) main (sized-main-screen d both.0.sized) (few-used main.height main) (sized-main w h d both.1).0)
+    call s.last s.display (any-call call) (any-repeat s.last) (is, (refl, refl, is.sized.margins_within))).leaves
 
 pub all-whole : (columns : ℕ) (calls : List Call) (s : State) → IsScreen s.display → s.display.width ≡ columns
     → AllByRecursion (HasCells columns) (all_left calls s)

@@ -1,6 +1,6 @@
 -- How long the text of what a screen showed can be.
-use Rattle.std.proofs.Common.{◌≡◌, ℕ, zero, suc, ◌+◌, ◌*◌, ◌≤◌, Bool, true, false, List, [], ◌∷◌, ◌++◌, length, take, drop, refl, ap, sym, subst, inl, inr, arith}
-use Rattle.std.specs.Prelude.{◌⊎◌, ◌==◌, encode_utf8, if◌then◌else◌}
+use Rattle.std.proofs.Common.{◌≡◌, ℕ, zero, suc, ◌+◌, ◌*◌, ◌≤◌, Bool, true, false, List, [], ◌∷◌, ◌++◌, length, take, drop, refl, ap, subst, inl, inr, arith}
+use Rattle.std.specs.Prelude.{⊤, ◌⊎◌, ◌==◌, encode_utf8, if◌then◌else◌}
 use Rattle.std.specs.List.{AllByRecursion, flat_map}
 use Rattle.std.proofs.lemmas.List.{length-append, length-take}
 use Rattle.std.proofs.lemmas.Str.{length-encode, len_utf8_bounds}
@@ -13,14 +13,15 @@ use Rattle.ansi_screen.specs.declared.cell.Marks.{Marks}
 use Rattle.ansi_screen.specs.declared.cell.Marks.TheVariants.{Unmarked, One, Two}
 use Rattle.ansi_screen.specs.Cells.{is_right}
 use Rattle.ansi_screen.specs.Display.{Display, row_cells}
-use Rattle.ansi_screen.specs.Edits.{row_going_on, swapped, main_screen}
-use Rattle.ansi_screen.specs.After.{State, new_state, executed, after, after_all}
+use Rattle.ansi_screen.specs.Edits.{swapped, main_screen}
+use Rattle.ansi_screen.specs.After.{State, new_state, step_of, executed, after, after_all}
 use Rattle.ansi_screen.specs.Text.{marks_text, cell_text, used, is_unprinted, goes_on, printed_count, printed_rows, first_rows}
 use Rattle.ansi_screen.specs.Leaving.{rows_left, all_left}
-use Rattle.ansi_screen.specs.Laws.{carriage_return, line_feed, is_wrapping}
+use Rattle.ansi_screen.specs.Laws.{carriage_return, line_feed}
 use Rattle.ansi_screen.specs.TextsProof.{after_all-append, all_left-append}
-use Rattle.ansi_screen.proofs.LeavingTable.{leaving, few-used, before_escape, before_leaving, rows_left-is, length-left as length-leaving}
-use Rattle.ansi_screen.proofs.SizeLemmas.{HasSize, sized-after, sized-after_all, few-leave}
+use Rattle.ansi_screen.proofs.Walk.{Turned, turn}
+use Rattle.ansi_screen.proofs.KeptCalls.{Any, any-call, any-repeat}
+use Rattle.ansi_screen.proofs.SizeLemmas.{HasSize, few-used, sized-change, sized-main, sized-after, sized-after_all, few-leave}
 use Rattle.ansi_screen.proofs.SwitchLemmas.{IsMain, none-or-main}
 use Rattle.screen_text.specs.Lines.{row_text, showing}
 use Rattle.screen_text.specs.Shown.{given, given_all, shown_text}
@@ -104,38 +105,18 @@ length-first : (n : ℕ) (d : Display) → length (first_rows n d) ≡ n
 length-first zero d = refl
 length-first (suc n) d = omega (arith, length-append (first_rows n d) (row_cells n d ∷ []), length-first n d)
 
-width-if : {width : ℕ} (t : Bool) (d : Display) → d.width ≡ width → (if t then row_going_on true d else d).width ≡ width
-width-if true d is = is
-width-if false d is = is
-
-width-of : {width : ℕ} (t : Bool) (a b : Display) → a.width ≡ width → b.width ≡ width → (if t then a else b).width ≡ width
-width-of true a b first second = first
-width-of false a b first second = second
-
 -- the rows that leave, and those that still show
 module _ (width height : ℕ) where
-  few-escape : (intermediates : List ℕ) (final : ℕ) (d : Display) → d.width ≡ width → (before_escape intermediates final d).width ≡ width
-  unfolding before_escape
-  few-escape [] final d is = width-of (final == 0x63) (main_screen d) d (width-of d.is_alternate (swapped d) d is is) is
-  few-escape (mark ∷ marks) final d is = is
-
-  few-before : (call : Call) (d : Display) → d.width ≡ width → (before_leaving call d).width ≡ width
-  few-before (print c) d is = width-if (is_wrapping c d) d is
-  few-before (execute byte) d is = is
-  few-before (csi_dispatch groups intermediates ignore final) d is = is
-  few-before (esc_dispatch intermediates ignore final) d is =
-      width-of ignore d (before_escape intermediates final d) is (few-escape intermediates final d is)
-  few-before (hook groups intermediates ignore final) d is = is
-  few-before (put byte) d is = is
-  few-before unhook d is = is
-  few-before (osc_dispatch parts bell) d is = is
+  few-turned : (call : Call) (s : State) → HasSize width height s.display → Turned (HasSize width height) (AreFew width) (step_of call s.last s.display)
+  few-turned call s is =
+      turn Any ⊤ (HasSize width height) (sized-change width height) (AreFew width) tt (λ n d sized few. few-first width n d sized.0)
+      (λ d sized. few-first width (printed_count (main_screen d)) (main_screen d) (sized-main width height d sized).0)
+      call s.last s.display (any-call call) (any-repeat s.last) is
 
   few-left : (calls : List Call) (s : State) → HasSize width height s.display → AreFew width (all_left calls s)
   few-left [] s is = tt
   few-left (call ∷ calls) s is =
-      few-append width (rows_left call s) (all_left calls (after call s))
-      (subst (AreFew width) (sym (rows_left-is call s))
-      (few-first width (leaving call s.display) (before_leaving call s.display) (few-before call s.display is.0)))
+      few-append width (rows_left call s) (all_left calls (after call s)) (few-turned call s is).leaves
       (few-left calls (after call s) (sized-after width height call s is))
 
   -- the rows of the main screen count, where it is hidden
@@ -147,15 +128,15 @@ module _ (width height : ℕ) where
   few-rows false = omega arith
 
   -- By a call no more leave than the screen has, and none by one that hides the main screen.
-  leave-main : (call : Call) (s : State) → (leaving call s.display ≡ 0) ⊎ IsMain (after call s).display → HasSize width height s.display
-      → leaving call s.display + hidden_rows (after call s).display ≤ height
-  leave-main call s (inl none) is = omega (arith, none, few-rows (after call s).display.is_alternate)
+  leave-main : (call : Call) (s : State) → (rows_left call s ≡ []) ⊎ IsMain (after call s).display → HasSize width height s.display
+      → length (rows_left call s) + hidden_rows (after call s).display ≤ height
+  leave-main call s (inl none) is = omega (arith, ap length none, few-rows (after call s).display.is_alternate)
   leave-main call s (inr main) is =
-      omega (arith, few-leave width height call s.display is, ap (λ (t : Bool). if t then height else 0) main)
+      omega (arith, few-leave width height call s is, ap (λ (t : Bool). if t then height else 0) main)
 
   leave-one_at : (call : Call) (s : State) (t : Bool) → s.display.is_alternate ≡ t → HasSize width height s.display
-      → leaving call s.display + hidden_rows (after call s).display ≤ height + (if t then height else 0)
-  leave-one_at call s true test is = omega (arith, few-leave width height call s.display is, few-rows (after call s).display.is_alternate)
+      → length (rows_left call s) + hidden_rows (after call s).display ≤ height + (if t then height else 0)
+  leave-one_at call s true test is = omega (arith, few-leave width height call s is, few-rows (after call s).display.is_alternate)
   leave-one_at call s false test is = omega (arith, leave-main call s (none-or-main call s test) is)
 
   length-one : (call : Call) (s : State) → HasSize width height s.display
@@ -164,7 +145,6 @@ module _ (width height : ℕ) where
       omega (
         arith,
         length-append (rows_left call s) [],
-        length-leaving call s,
         leave-one_at call s s.display.is_alternate refl is,
       )
 

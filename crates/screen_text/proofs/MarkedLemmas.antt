@@ -4,7 +4,6 @@ use Rattle.std.specs.Prelude.{◌⊎◌, ◌&&◌, nat_lt, nat_eq, ◌==◌, not
 use Rattle.std.specs.List.{flat_map}
 use Rattle.std.proofs.lemmas.Bool.{and_right, ne_eqb}
 use Rattle.std.proofs.lemmas.List.{append-nil, append_assoc, length-append}
-use Rattle.anstyle_parse.specs.Stream.Call.{print}
 use Rattle.ansi_screen.specs.declared.cell.Cell.{Cell}
 use Rattle.ansi_screen.specs.declared.cell.Marks.{Marks}
 use Rattle.ansi_screen.specs.declared.cell.Marks.TheVariants.{Unmarked, One, Two}
@@ -15,7 +14,7 @@ use Rattle.ansi_screen.specs.Widths.{is_shown, columns}
 use Rattle.ansi_screen.specs.Print.{glyph, printed, shown, marked}
 use Rattle.ansi_screen.specs.Text.{cell_text, marks_text, is_unprinted, is_empty, is_unmarked}
 use Rattle.ansi_screen.specs.Laws.{is_wrapping}
-use Rattle.ansi_screen.proofs.LeavingTable.{leaving_rows}
+use Rattle.ansi_screen.proofs.WrapLemmas.{left_by_wrap, printed-left}
 use Rattle.ansi_screen.proofs.PlainLemmas.{plain, at}
 use Rattle.screen_text.proofs.RowTextLemmas.{spaces, IsPrinted, printed-append, printed-parts}
 use Rattle.screen_text.proofs.TypedLemmas.{joined, length-joined, Typed}
@@ -117,8 +116,8 @@ mark-wraps m d none =
     ap (λ n. is_shown m && not (n == 0) && nat_lt d.width (d.cursor.column + n) && d.wraps) none
     ∙ ap (λ (b : Bool). b && nat_lt d.width (d.cursor.column + 0) && d.wraps) (and_right (is_shown m) false refl)
 
-pub mark-left : (m : ℕ) (d : Display) → columns m ≡ 0 → leaving_rows (print m) d ≡ []
-mark-left m d none = rw (mark-wraps m d none) refl
+pub mark-left : (m : ℕ) (d : Display) → columns m ≡ 0 → (printed m d).left ≡ []
+mark-left m d none = printed-left m d ∙ ap (λ t. if t then left_by_wrap d else []) (mark-wraps m d none)
 
 -- a cell with one mark more
 more-marked : (m : ℕ) (marks : Marks) → is_unmarked (one_more m marks) ≡ false

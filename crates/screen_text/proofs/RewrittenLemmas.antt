@@ -1,20 +1,19 @@
 -- What a row showed before it is written anew is never written.
 use Rattle.std.proofs.Common.{◌≡◌, ℕ, ◌+◌, ◌-◌, ◌*◌, ◌≤◌, false, List, [], ◌∷◌, ◌++◌, refl, ap, sym, ◌∙◌, arith}
-use Rattle.std.specs.Prelude.{min, nat_lt, ◌==◌, ◌&&◌, not}
-use Rattle.std.proofs.lemmas.Bool.{le-ltb, and_left, and_right}
+use Rattle.std.specs.Prelude.{min}
 use Rattle.std.proofs.lemmas.List.{append_assoc}
 use Rattle.std.proofs.lemmas.Grind.{flat_map-append}
 use Rattle.anstyle_parse.specs.Stream.Call.{Call, print}
 use Rattle.ansi_screen.specs.Display.{Display}
-use Rattle.ansi_screen.specs.Widths.{is_shown, columns}
+use Rattle.ansi_screen.specs.Widths.{columns}
 use Rattle.ansi_screen.specs.Print.{printed}
 use Rattle.ansi_screen.specs.Edits.{erases_first, erased_part, erased_line}
 use Rattle.ansi_screen.specs.After.{State, function_of, is_known, edited, controlled, sequenced, is_repeat, executed, after, after_all}
 use Rattle.ansi_screen.specs.Leaving.{rows_left, all_left}
 use Rattle.ansi_screen.specs.Reachable.{IsScreen}
-use Rattle.ansi_screen.specs.Laws.{carriage_return, line_feed, erase_rest, printing, text_columns, is_wrapping}
+use Rattle.ansi_screen.specs.Laws.{carriage_return, line_feed, erase_rest, printing, text_columns}
 use Rattle.ansi_screen.specs.TextsProof.{all_left-append}
-use Rattle.ansi_screen.proofs.LeavingTable.{leaving_by_control, leaving_by_function, leaving_by_sequence, leaving_rows, rows_left-is}
+use Rattle.ansi_screen.proofs.WrapLemmas.{fits-left}
 use Rattle.ansi_screen.proofs.LawLemmas.{after_all-append}
 use Rattle.ansi_screen.proofs.KeptCalls.{kept-after, kept-after_all}
 use Rattle.ansi_screen.proofs.RowLemmas.{Wrote, printed-wrote}
@@ -25,16 +24,6 @@ use Rattle.screen_text.specs.Shown.{given, given_all, still_text, shown_text}
 use Rattle.screen_text.specs.Lines.{open_after}
 
 -- A character that has room moves no row off.
-pub fits-wraps : (c : ℕ) (d : Display) → d.cursor.column + columns c ≤ d.width → is_wrapping c d ≡ false
-unfolding is_wrapping
-fits-wraps c d fits =
-    let room : nat_lt d.width (d.cursor.column + columns c) ≡ false = le-ltb d.width (d.cursor.column + columns c) fits in
-    and_left (is_shown c && not (columns c == 0) && nat_lt d.width (d.cursor.column + columns c)) d.wraps
-    (and_right (is_shown c && not (columns c == 0)) (nat_lt d.width (d.cursor.column + columns c)) room)
-
-pub fits-left : (c : ℕ) (d : Display) → d.cursor.column + columns c ≤ d.width → leaving_rows (print c) d ≡ []
-fits-left c d fits = rw (fits-wraps c d fits) refl
-
 printing-left : (text : List ℕ) (s : State) → IsScreen s.display → s.display.cursor.column + text_columns text ≤ s.display.width
     → all_left (printing text) s ≡ []
 printing-left [] s screen fits = refl
@@ -43,7 +32,7 @@ printing-left (c ∷ text) s screen fits =
     let width : (after (print c) s).display.width ≡ s.display.width = ap (λ (d : Display). d.width) wrote.is in
     let column : (after (print c) s).display.cursor.column ≡ wrote.column = ap (λ (d : Display). d.cursor.column) wrote.is in
     let near : wrote.column ≤ s.display.cursor.column + columns c = wrote.fits in
-    ap (λ l. l ++ all_left (printing text) (after (print c) s)) (rows_left-is (print c) s ∙ fits-left c s.display (omega arith))
+    ap (λ l. l ++ all_left (printing text) (after (print c) s)) (fits-left c s.display (omega arith))
     ∙ printing-left text (after (print c) s) (kept-after (print c) s screen) (omega arith)
 
 printing-width : (text : List ℕ) (s : State) → IsScreen s.display → s.display.cursor.column + text_columns text ≤ s.display.width
@@ -57,12 +46,12 @@ printing-width (c ∷ text) s screen fits =
     printing-width text (after (print c) s) (kept-after (print c) s screen) (omega arith) ∙ width
 
 pub return-left : (s : State) → rows_left carriage_return s ≡ []
-unfolding leaving_by_control
-return-left s = rows_left-is carriage_return s
+unfolding executed
+return-left s = refl
 
 erase-left : (s : State) → rows_left erase_rest s ≡ []
-unfolding leaving_by_sequence leaving_by_function function_of
-erase-left s = rows_left-is erase_rest s
+unfolding is_repeat sequenced controlled function_of is_known edited
+erase-left s = refl
 
 return-column : (d : Display) → (executed 0x0D d).display.cursor.column ≡ min 0 (d.width - 1)
 unfolding executed
@@ -172,11 +161,8 @@ erased-returned s wide =
     rw (first, first, place) refl
 
 wipe-left : (s : State) → all_left (erase_line ∷ carriage_return ∷ []) s ≡ []
-unfolding leaving_by_sequence leaving_by_function function_of leaving_by_control
-wipe-left s =
-    let next : State = after erase_line s in
-    ap (λ l. l ++ (rows_left carriage_return next ++ [])) (rows_left-is erase_line s)
-    ∙ ap (λ l. l ++ []) (rows_left-is carriage_return next)
+unfolding is_repeat sequenced controlled function_of is_known edited executed
+wipe-left s = refl
 
 pub wiped-shown : (s : State) (earlier later : List Call) (before : List ℕ) → IsScreen (after_all (given_all earlier) s).display
     → (after_all (given_all earlier) s).display.cursor.column + text_columns before ≤ (after_all (given_all earlier) s).display.width

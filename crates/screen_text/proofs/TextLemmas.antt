@@ -17,7 +17,6 @@ use Rattle.ansi_screen.specs.Text.{cell_text, used, is_unprinted}
 use Rattle.ansi_screen.specs.Leaving.{all_left}
 use Rattle.ansi_screen.specs.Laws.{carriage_return, line_feed, printing}
 use Rattle.ansi_screen.specs.TextsProof.{all_left-append}
-use Rattle.ansi_screen.proofs.LeavingTable.{leaving_rows, rows_left-is}
 use Rattle.ansi_screen.proofs.PlainLemmas.{plain}
 use Rattle.ansi_screen.proofs.LawLemmas.{after_all-append}
 use Rattle.ansi_screen.proofs.KeptCalls.{columns-few}
@@ -100,14 +99,14 @@ rows-push rows row = flat_map-append row_text rows (row ∷ []) ∙ ap (λ l. ro
 module _ (width height : ℕ) (wide : 2 ≤ width) where
   -- one more character
   line-more : (c : ℕ) (line : List ℕ) (left : List (List Cell)) (text : List ℕ) (s : State)
-      → Line width height 1 ((left ++ leaving_rows (print c) s.display) ++ all_left (printing line) (after (print c) s)) ((text ++ encode_utf8 c) ++ flat_map encode_utf8 line)
+      → Line width height 1 ((left ++ (printed c s.display).left) ++ all_left (printing line) (after (print c) s)) ((text ++ encode_utf8 c) ++ flat_map encode_utf8 line)
       (after_all (printing line) (after (print c) s)).display
       → Line width height 1 (left ++ all_left (printing (c ∷ line)) s) (text ++ flat_map encode_utf8 (c ∷ line)) (after_all (printing (c ∷ line)) s).display
   line-more c line left text s it =
       let rest : List (List Cell) = all_left (printing line) (after (print c) s) in
-      line-same width height 1 ((left ++ leaving_rows (print c) s.display) ++ rest) (left ++ all_left (printing (c ∷ line)) s)
+      line-same width height 1 ((left ++ (printed c s.display).left) ++ rest) (left ++ all_left (printing (c ∷ line)) s)
       ((text ++ encode_utf8 c) ++ flat_map encode_utf8 line) (text ++ flat_map encode_utf8 (c ∷ line)) _ _
-      (append_assoc left (leaving_rows (print c) s.display) rest ∙ ap (λ l. left ++ (l ++ rest)) (sym (rows_left-is (print c) s))) (append_assoc text (encode_utf8 c) (flat_map encode_utf8 line)) refl it
+      (append_assoc left (printed c s.display).left rest) (append_assoc text (encode_utf8 c) (flat_map encode_utf8 line)) refl it
 
   -- the cells of a character
   behind-run : (c : ℕ) (left all : List (List Cell)) (front : List Cell) (text : List ℕ) (d : Display) → Typed width height left all (front ++ glyph (columns c) c plain 0) d
@@ -131,7 +130,7 @@ module _ (width height : ℕ) (wide : 2 ≤ width) where
   -- a character
   print-glyph_at : (c least : ℕ) (left : List (List Cell)) (text : List ℕ) (d : Display) (t : Bool)
       → (line : Line width height least left text d) → nat_lt width (length line.current + columns c) ≡ t → is_shown c ≡ true → columns c ≢ 0
-      → Behind width height 2 (left ++ leaving_rows (print c) d) (text ++ encode_utf8 c) (printed c d).display
+      → Behind width height 2 (left ++ (printed c d).left) (text ++ encode_utf8 c) (printed c d).display
   print-glyph_at c least left text d false line test is other =
       let some : 1 ≤ columns c = let no : columns c ≡ 0 → ⊥ = other in omega arith in
       let room : length line.current + columns c ≤ width = ltb-false width (length line.current + columns c) test in
@@ -139,8 +138,8 @@ module _ (width height : ℕ) (wide : 2 ≤ width) where
       let run : List Cell = glyph (columns c) c plain 0 in
       let next : Typed width height left line.all (line.current ++ run) (printed c d).display =
       typed-put width height left line.all line.current d line.typed c is some few room in
-      let none : leaving_rows (print c) d ≡ [] = put-left width height left line.all line.current d line.typed c room in
-      behind-run c (left ++ leaving_rows (print c) d) line.all line.current text (printed c d).display
+      let none : (printed c d).left ≡ [] = put-left width height left line.all line.current d line.typed c room in
+      behind-run c (left ++ (printed c d).left) line.all line.current text (printed c d).display
       (subst (λ l. Typed width height l line.all (line.current ++ run) (printed c d).display) (sym (ap (λ l. left ++ l) none ∙ append-nil left)) next) line.shows
   print-glyph_at c least left text d true line test is other =
       let some : 1 ≤ columns c = let no : columns c ≡ 0 → ⊥ = other in omega arith in
@@ -150,13 +149,13 @@ module _ (width height : ℕ) (wide : 2 ≤ width) where
       let row : List Cell = mark (width - 1) (line.current ++ spaces blank) in
       let marked : row_text row ≡ flat_map cell_text line.current =
       text-marked line.current blank width line.typed.printed (row-long width height left line.all line.current d line.typed) (omega arith) in
-      behind-run c (left ++ leaving_rows (print c) d) (line.all ++ row ∷ []) [] text (printed c d).display
+      behind-run c (left ++ (printed c d).left) (line.all ++ row ∷ []) [] text (printed c d).display
       (typed-wrap width height c left line.all line.current d line.typed wide is some few full)
       (append-nil (rows_text (line.all ++ row ∷ [])) ∙ (rows-push line.all row ∙ (ap (λ l. rows_text line.all ++ l) marked ∙ line.shows)))
 
   -- a mark
   print-mark_at : (m room : ℕ) (left : List (List Cell)) (text : List ℕ) (d : Display) → Behind width height (suc room) left text d → is_shown m ≡ true → columns m ≡ 0
-      → Behind width height room (left ++ leaving_rows (print m) d) (text ++ encode_utf8 m) (printed m d).display
+      → Behind width height room (left ++ (printed m d).left) (text ++ encode_utf8 m) (printed m d).display
   print-mark_at m room left text d it is none =
       let next : Typed width height left it.all (it.front ++ with_mark m it.first ∷ it.others) (printed m d).display =
       typed-mark width height m left it.all it.front it.first it.others d it.glyph it.typed is none in
@@ -187,13 +186,13 @@ module _ (width height : ℕ) (wide : 2 ≤ width) where
       (line-behind width height room left text s.display before)
   print-behind (c ∷ line) room left text s (good, is, inl (other, are)) before =
       line-more c line left text s
-      (print-behind line 2 (left ++ leaving_rows (print c) s.display) (text ++ encode_utf8 c) (after (print c) s) are
+      (print-behind line 2 (left ++ (printed c s.display).left) (text ++ encode_utf8 c) (after (print c) s) are
       (print-glyph_at c 1 left text s.display _ (line-behind width height room left text s.display before) refl is other))
   print-behind (c ∷ line) zero left text s (good, is, inr (none, some, are)) before = absurd (omega (arith, some))
   print-behind (c ∷ line) (suc room) left text s (good, is, inr (none, some, are)) before =
       let less : suc room - 1 ≡ room = omega arith in
       line-more c line left text s
-      (print-behind line room (left ++ leaving_rows (print c) s.display) (text ++ encode_utf8 c) (after (print c) s) (subst (λ k. IsMarkedLine k line) less are)
+      (print-behind line room (left ++ (printed c s.display).left) (text ++ encode_utf8 c) (after (print c) s) (subst (λ k. IsMarkedLine k line) less are)
       (print-mark_at c room left text s.display before is none))
 
   -- a line of which there is one at least
@@ -202,7 +201,7 @@ module _ (width height : ℕ) (wide : 2 ≤ width) where
       → Line width height 1 (left ++ all_left (printing (c ∷ line)) s) (text ++ flat_map encode_utf8 (c ∷ line)) (after_all (printing (c ∷ line)) s).display
   print-some c line left text s (good, is, inl (other, are)) before =
       line-more c line left text s
-      (print-behind line 2 (left ++ leaving_rows (print c) s.display) (text ++ encode_utf8 c) (after (print c) s) are
+      (print-behind line 2 (left ++ (printed c s.display).left) (text ++ encode_utf8 c) (after (print c) s) are
       (print-glyph_at c 0 left text s.display _ before refl is other))
   print-some c line left text s (good, is, inr (none, some, are)) before = absurd (omega (arith, some))
 

@@ -1,11 +1,11 @@
 -- What a screen showed is lines of characters with two marks each at most, which another screen shows as they are.
-use Rattle.std.proofs.Common.{◌≡◌, ℕ, zero, suc, ◌-◌, ◌*◌, ◌≤◌, Bool, true, false, List, [], ◌∷◌, ◌++◌, length, take, drop, set, refl, ap, sym, ◌∙◌, subst, inl, inr, eqb-true, arith, length-append}
+use Rattle.std.proofs.Common.{◌≡◌, ℕ, ◌-◌, ◌≤◌, Bool, true, false, List, [], ◌∷◌, ◌++◌, length, take, refl, ap, sym, ◌∙◌, subst, inl, inr, eqb-true, arith, length-append}
 use Rattle.std.specs.Prelude.{◌≢◌, ◌⊎◌, ◌&&◌, ◌==◌, encode_utf8, if◌then◌else◌}
 use Rattle.std.specs.List.{AllByRecursion, flat_map}
 use Rattle.std.proofs.lemmas.Bool.{true≢false, and_parts}
 use Rattle.std.proofs.lemmas.List.{append-nil, append_assoc}
 use Rattle.std.proofs.lemmas.Grind.{flat_map-append}
-use Rattle.anstyle_parse.specs.Stream.Call.{Call, print, execute, hook, put, unhook, osc_dispatch, csi_dispatch, esc_dispatch}
+use Rattle.anstyle_parse.specs.Stream.Call.{Call}
 use Rattle.anstyle_parse.specs.Stream.Calls.{AreCalls}
 use Rattle.anstyle_parse.proofs.Lists.Parts.{AllByRecursion-take}
 use Rattle.anstyle_parse.proofs.Lawful.Calls.{lawful}
@@ -15,18 +15,16 @@ use Rattle.ansi_screen.specs.declared.cell.Marks.{Marks}
 use Rattle.ansi_screen.specs.declared.cell.Marks.TheVariants.{Unmarked, One, Two}
 use Rattle.ansi_screen.specs.declared.cell.Part.{Part}
 use Rattle.ansi_screen.specs.declared.cell.Part.TheVariants.{Empty, Whole, Left, Right}
-use Rattle.ansi_screen.specs.Cells.{is_right, cell_at, going_on}
-use Rattle.ansi_screen.specs.Display.{Display, row_end, row_cells}
-use Rattle.ansi_screen.specs.Edits.{row_going_on, swapped, main_screen}
+use Rattle.ansi_screen.specs.Cells.{is_right}
+use Rattle.ansi_screen.specs.Display.{Display}
+use Rattle.ansi_screen.specs.Edits.{swapped}
 use Rattle.ansi_screen.specs.Widths.{is_among, columns}
 use Rattle.ansi_screen.specs.Reachable.{FitsPart, AreMarks, IsCell, AreCells, IsScreen, HasContents}
 use Rattle.ansi_screen.specs.After.{State, new_state, after, after_all}
-use Rattle.ansi_screen.specs.Text.{cell_text, marks_text, used, is_unprinted, goes_on, printed_count, printed_rows, first_rows}
-use Rattle.ansi_screen.specs.Laws.{is_wrapping}
+use Rattle.ansi_screen.specs.Text.{cell_text, marks_text, used, is_unprinted, goes_on, printed_count, printed_rows}
 use Rattle.ansi_screen.specs.Leaving.{rows_left, all_left}
-use Rattle.ansi_screen.proofs.LeavingTable.{leaving, before_escape, before_leaving, rows_left-is}
 use Rattle.ansi_screen.proofs.CharacterLemmas.{PrintsCharacter, AreGoodMarks, IsGoodCell, AreGood, IsGoodState, good-new, good-after_all, good-left}
-use Rattle.ansi_screen.proofs.ContentLemmas.{cells-take, cells-drop, cells-at, contents-new, contents-after, contents-after_all}
+use Rattle.ansi_screen.proofs.ContentLemmas.{cells-first_rows, contents-new, contents-after, contents-left, contents-after_all}
 use Rattle.ansi_screen.proofs.KeptCalls.{kept-after}
 use Rattle.screen_text.specs.Lines.{row_text, showing}
 use Rattle.screen_text.specs.Shown.{given_all, shown_text}
@@ -242,50 +240,6 @@ rows-append : (P : List Cell → Type 0) (rows more : List (List Cell)) → AllB
 rows-append P [] more are others = others
 rows-append P (row ∷ rows) more are others = (are.0, rows-append P rows more are.1 others)
 
-cells-first_rows : (n : ℕ) (d : Display) → AreCells d.cells → AllByRecursion AreCells (first_rows n d)
-cells-first_rows zero d are = tt
-cells-first_rows (suc n) d are =
-    rows-append AreCells (first_rows n d) (row_cells n d ∷ []) (cells-first_rows n d are)
-    (cells-take d.width (drop (n * d.width) d.cells) (cells-drop (n * d.width) d.cells are), tt)
-
-cells-set : (i : ℕ) (cells : List Cell) (x : Cell) → IsCell x → AreCells cells → AreCells (set cells i x)
-cells-set i [] x is are = are
-cells-set zero (y ∷ cells) x is are = (is, are.1)
-cells-set (suc i) (y ∷ cells) x is are = (are.0, cells-set i cells x is are.1)
-
-cells-going_on : (end : ℕ) (cells : List Cell) → AreCells cells → AreCells (going_on true end cells)
-unfolding going_on
-cells-going_on end cells are =
-    let it : IsCell (cell_at (end - 1) cells) = cells-at cells (end - 1) are in
-    cells-set (end - 1) cells (record (cell_at (end - 1) cells) { goes_on = true })
-    (record { shown = it.shown; fits = it.fits; marked = it.marked; colored = it.colored }) are
-
-cells-marked : (t : Bool) (d : Display) → AreCells d.cells → AreCells (if t then row_going_on true d else d).cells
-cells-marked true d are = cells-going_on (row_end d) d.cells are
-cells-marked false d are = are
-
-cells-either : (t : Bool) (a b : Display) → AreCells a.cells → AreCells b.cells → AreCells (if t then a else b).cells
-cells-either true a b first second = first
-cells-either false a b first second = second
-
-cells-before_escape : (intermediates : List ℕ) (final : ℕ) (d : Display) → AreCells d.cells → AreCells d.hidden
-    → AreCells (before_escape intermediates final d).cells
-unfolding before_escape
-cells-before_escape [] final d are hidden =
-    cells-either (final == 0x63) (main_screen d) d (cells-either d.is_alternate (swapped d) d hidden are) are
-cells-before_escape (mark ∷ marks) final d are hidden = are
-
-cells-before_leaving : (call : Call) (d : Display) → AreCells d.cells → AreCells d.hidden → AreCells (before_leaving call d).cells
-cells-before_leaving (print c) d are hidden = cells-marked (is_wrapping c d) d are
-cells-before_leaving (execute byte) d are hidden = are
-cells-before_leaving (csi_dispatch groups intermediates ignore final) d are hidden = are
-cells-before_leaving (esc_dispatch intermediates ignore final) d are hidden =
-    cells-either ignore d (before_escape intermediates final d) are (cells-before_escape intermediates final d are hidden)
-cells-before_leaving (hook groups intermediates ignore final) d are hidden = are
-cells-before_leaving (put byte) d are hidden = are
-cells-before_leaving unhook d are hidden = are
-cells-before_leaving (osc_dispatch parts bell) d are hidden = are
-
 -- the rows that still show
 cells-hidden : (t : Bool) (d : Display) → AreCells d.hidden → AllByRecursion AreCells (if t then printed_rows (swapped d) else [])
 cells-hidden true d hidden = cells-first_rows (printed_count (swapped d)) (swapped d) hidden
@@ -299,9 +253,7 @@ cells-showing d are hidden =
 cells-left : (calls : List Call) (s : State) → IsScreen s.display → HasContents s.display → AllByRecursion AreCells (all_left calls s)
 cells-left [] s screen holds = tt
 cells-left (call ∷ calls) s screen holds =
-    rows-append AreCells (rows_left call s) (all_left calls (after call s))
-    (subst (AllByRecursion AreCells) (sym (rows_left-is call s))
-    (cells-first_rows (leaving call s.display) (before_leaving call s.display) (cells-before_leaving call s.display holds.cells holds.hidden)))
+    rows-append AreCells (rows_left call s) (all_left calls (after call s)) (contents-left call s screen holds)
     (cells-left calls (after call s) (kept-after call s screen) (contents-after call s screen holds))
 
 module _ (columns_of rows_of : ℕ) (bytes : List ℕ) (calls : List Call) (screen : IsScreen (new_state columns_of rows_of).display) (are : AreCalls bytes calls) where

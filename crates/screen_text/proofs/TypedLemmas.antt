@@ -9,11 +9,10 @@ use Rattle.std.proofs.Math.Nat.{suc-mul}
 use Rattle.ansi_screen.specs.declared.cell.Cell.{Cell}
 use Rattle.ansi_screen.specs.Cells.{blank, cell_at, cut, within, change, going_on, moved_back}
 use Rattle.ansi_screen.specs.Display.{Display}
-use Rattle.ansi_screen.specs.Edits.{rows_up, index}
+use Rattle.ansi_screen.specs.Edits.{rows_up, left_by_scroll, index}
 use Rattle.ansi_screen.specs.Widths.{is_shown, columns}
 use Rattle.ansi_screen.specs.Print.{glyph, wrapped, with_room, with_cells_of, with_glyph, put, shown, printed}
 use Rattle.ansi_screen.specs.Text.{first_rows}
-use Rattle.ansi_screen.proofs.LeavingTable.{leaving_up, leaving_by_index}
 use Rattle.ansi_screen.proofs.GoingLemmas.{none-blanks, none-append, none-behind, glyph-none, going-none}
 use Rattle.ansi_screen.proofs.PlainLemmas.{plain, at, cut-blanks}
 use Rattle.screen_text.proofs.RowTextLemmas.{spaces, ArePrinted, ArePlainCells, ArePlainRows, plain-rows_append}
@@ -119,15 +118,14 @@ index-last width height row column first rest last long all_long =
     let one : 1 * width ≡ width = omega arith in
     rw (last, from, one) (ap (λ cells. at width height cells row column) (back-first width (height * width) first rest long all_long))
 
-leaves-none : (width height row column : ℕ) (cells : List Cell) → (row + 1 == height) ≡ false
-    → leaving_by_index (at width height cells row column) ≡ 0
-unfolding leaving_by_index
-leaves-none width height row column cells other = rw other refl
+left-none : (width height row column : ℕ) (cells : List Cell) → (row + 1 == height) ≡ false → (index (at width height cells row column)).left ≡ []
+unfolding index
+left-none width height row column cells other = rw other refl
 
-leaves-first : (width height row column : ℕ) (cells : List Cell) → (row + 1 == height) ≡ true → 1 ≤ height
-    → leaving_by_index (at width height cells row column) ≡ 1
-unfolding leaving_by_index leaving_up
-leaves-first width height row column cells last some =
+left-first : (width height row column : ℕ) (cells : List Cell) → (row + 1 == height) ≡ true → 1 ≤ height
+    → (index (at width height cells row column)).left ≡ first_rows 1 (at width height cells row column)
+unfolding index left_by_scroll
+left-first width height row column cells last some =
     let one : min 1 height ≡ 1 = omega arith in
     rw (last, one) refl
 
@@ -159,7 +157,7 @@ pub record Typed (width height : ℕ) (left all : List (List Cell)) (current : L
 -- what a move to the next row leaves, and the rows that leave by it
 pub record Next (width height : ℕ) (left all : List (List Cell)) (d e : Display) : Type 0 where
   pub out : List (List Cell)
-  pub is : first_rows (leaving_by_index d) d ≡ out
+  pub is : (index d).left ≡ out
   pub typed : Typed width height (left ++ out) all [] e
 
 pub next-row : (width height rest : ℕ) (left all full : List (List Cell)) (row : List Cell) (t : Bool) → (length full + 1 == height) ≡ t
@@ -176,7 +174,7 @@ next-row width height rest left all full row false other are long below fill spl
     ap (λ k. k * width) (length_push full row) ∙ omega (arith, suc-mul (length full) width) in
     record {
       out = [];
-      is = ap (λ k. first_rows k d) (leaves-none width height (length full) 0 cells other);
+      is = left-none width height (length full) 0 cells other;
       typed = record {
         full = full ++ row ∷ [];
         rest = rest;
@@ -219,7 +217,7 @@ next-row width height rest left all full row true last are long below fill split
     let rows : length others * width ≡ length full * width = ap (λ k. k * width) count in
     record {
       out = first ∷ [];
-      is = ap (λ k. first_rows k d) (leaves-first width height (length full) 0 cells last (omega arith))
+      is = left-first width height (length full) 0 cells last (omega arith)
           ∙ ap (λ l. l ∷ []) (ap (λ k. take width (drop k cells)) from ∙ (ap (take width) same ∙ take_at first behind width first_long));
       typed = record {
         full = others;

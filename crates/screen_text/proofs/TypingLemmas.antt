@@ -1,26 +1,24 @@
 -- A character and a new line on a screen on which plain text is typed.
-use Rattle.std.proofs.Common.{◌≡◌, ℕ, zero, suc, ◌+◌, ◌-◌, ◌*◌, ◌<◌, ◌≤◌, true, false, List, [], ◌∷◌, ◌++◌, length, set, refl, ap, sym, ◌∙◌, subst, arith}
+use Rattle.std.proofs.Common.{◌≡◌, ℕ, suc, ◌+◌, ◌-◌, ◌*◌, ◌<◌, ◌≤◌, true, false, List, [], ◌∷◌, ◌++◌, length, set, refl, ap, sym, ◌∙◌, subst, arith}
 use Rattle.std.specs.Prelude.{min, nat_lt, ◌==◌, if◌then◌else◌}
 use Rattle.std.proofs.lemmas.Bool.{lt-ltb, ne_eqb}
 use Rattle.std.proofs.lemmas.List.{append-nil, append_assoc, length-append, length-replicate, set-append_left, get_or_append_left}
 use Rattle.std.proofs.Math.Nat.{suc-mul, mul-le-mul_right}
-use Rattle.anstyle_parse.specs.Stream.Call.{print}
 use Rattle.ansi_screen.specs.declared.cell.Cell.{Cell}
 use Rattle.ansi_screen.specs.Cells.{blank, cell_at, going_on}
-use Rattle.ansi_screen.specs.Display.{Display, row_cells}
-use Rattle.ansi_screen.specs.Edits.{row_going_on, index}
+use Rattle.ansi_screen.specs.Display.{Display}
+use Rattle.ansi_screen.specs.Edits.{index}
 use Rattle.ansi_screen.specs.Widths.{is_shown, columns}
 use Rattle.ansi_screen.specs.Print.{glyph, printed}
 use Rattle.ansi_screen.specs.State.{State, Step}
 use Rattle.ansi_screen.specs.After.{executed, after, after_all}
-use Rattle.ansi_screen.specs.Text.{first_rows}
 use Rattle.ansi_screen.specs.Leaving.{rows_left, all_left}
 use Rattle.ansi_screen.specs.Laws.{carriage_return, line_feed, is_wrapping}
-use Rattle.ansi_screen.proofs.LeavingTable.{leaving_up, leaving_by_index, leaving_by_control, leaving_rows, rows_left-is}
+use Rattle.ansi_screen.proofs.WrapLemmas.{left_by_wrap, printed-left, fits-left}
 use Rattle.ansi_screen.proofs.PlainLemmas.{plain, at, return-first}
 use Rattle.ansi_screen.proofs.WholeLemmas.{length-glyph}
 use Rattle.screen_text.proofs.RowTextLemmas.{spaces, mark, plain-printed, plain-mark, length-mark, printed-append, printed-glyph}
-use Rattle.screen_text.proofs.RewrittenLemmas.{fits-left, return-left}
+use Rattle.screen_text.proofs.RewrittenLemmas.{return-left}
 use Rattle.screen_text.proofs.TypedLemmas.{joined, AreLong, length-joined, spaces-split, put-room, put-wrapped, Typed, Next, next-row}
 
 -- cells with blanks after them, of which some fill a row
@@ -94,9 +92,9 @@ module _ (width height : ℕ) (left all : List (List Cell)) (current : List Cell
         scrolled = typed.scrolled;
       }
 
-  pub put-left : (c : ℕ) → length current + columns c ≤ width → leaving_rows (print c) d ≡ []
+  pub put-left : (c : ℕ) → length current + columns c ≤ width → (printed c d).left ≡ []
   put-left c room =
-      ap (λ e. leaving_rows (print c) e) typed.is
+      ap (λ e. (printed c e).left) typed.is
       ∙ fits-left c (at width height (joined typed.full ++ (current ++ spaces typed.rest)) (length typed.full) (length current)) room
 
 -- CR and LF
@@ -105,10 +103,6 @@ unfolding executed
 feed-index width height row cells =
     let first : min 0 (width - 1) ≡ 0 = omega arith in
     rw first refl
-
-feed-left : (d : Display) → leaving_rows line_feed d ≡ first_rows (leaving_by_index d) d
-unfolding leaving_by_control
-feed-left d = refl
 
 pub typed-feed : (width height : ℕ) (left all : List (List Cell)) (current : List Cell) (s : State) → Typed width height left all current s.display
     → Typed width height (left ++ all_left (carriage_return ∷ line_feed ∷ []) s) (all ++ (current ++ spaces (width - length current)) ∷ [])
@@ -132,7 +126,8 @@ typed-feed width height left all current s typed =
     let out : all_left (carriage_return ∷ line_feed ∷ []) s ≡ next.out =
     ap (λ l. l ++ (rows_left line_feed there ++ [])) (return-left s)
     ∙ (append-nil (rows_left line_feed there)
-    ∙ (rows_left-is line_feed there ∙ (ap (λ e. leaving_rows line_feed e) returned ∙ (feed-left first ∙ next.is)))) in
+    ∙ (ap (λ e. (executed 0x0A e).left) returned
+    ∙ (ap (λ (x : Step). x.left) (feed-index width height row_there (joined typed.full ++ (row ++ spaces rest))) ∙ next.is))) in
     subst (λ l. Typed width height (left ++ l) (all ++ row ∷ []) [] (executed 0x0A (executed 0x0D d).display).display) (sym out)
     (subst (λ e. Typed width height (left ++ next.out) (all ++ row ∷ []) [] e) (sym fed) next.typed)
 
@@ -168,28 +163,18 @@ full-wraps width height row column c cells is some full =
     let other : (columns c == 0) ≡ false = ne_eqb (columns c) 0 (λ e. omega arith) in
     rw (is, other, past) refl
 
-rows-place : (n width height row column : ℕ) (cells : List Cell) → first_rows n (at width height cells row column) ≡ first_rows n (at width height cells row 0)
-rows-place zero width height row column cells = refl
-rows-place (suc n) width height row column cells = ap (λ l. l ++ row_cells n (at width height cells row 0) ∷ []) (rows-place n width height row column cells)
-
-leaves-place : (width height row column : ℕ) (cells cells_then : List Cell)
-    → leaving_by_index (at width height cells row column) ≡ leaving_by_index (at width height cells_then row 0)
-unfolding leaving_by_index leaving_up
-leaves-place width height row column cells cells_then = refl
-
 wrap-left : (width height row column c : ℕ) (cells : List Cell) → is_shown c ≡ true → 1 ≤ columns c → width < column + columns c
-    → leaving_rows (print c) (at width height cells row column)
-    ≡ (let d : Display = at width height (going_on true (row * width + width) cells) row 0 in first_rows (leaving_by_index d) d)
+    → (printed c (at width height cells row column)).left ≡ (index (at width height (going_on true (row * width + width) cells) row 0)).left
 wrap-left width height row column c cells is some full =
     let d : Display = at width height cells row column in
-    let marked : List Cell = going_on true (row * width + width) cells in
-    ap (λ t. first_rows (if t then leaving_by_index d else 0) (if t then row_going_on true d else d)) (full-wraps width height row column c cells is some full)
-    ∙ (rows-place (leaving_by_index d) width height row column marked
-    ∙ ap (λ k. first_rows k (at width height marked row 0)) (leaves-place width height row column cells marked))
+    let first : min 0 (width - 1) ≡ 0 = omega arith in
+    printed-left c d
+    ∙ (ap (λ t. if t then left_by_wrap d else []) (full-wraps width height row column c cells is some full)
+    ∙ ap (λ k. (index (at width height (going_on true (row * width + width) cells) row k)).left) first)
 
 pub typed-wrap : (width height c : ℕ) (left all : List (List Cell)) (current : List Cell) (d : Display) → Typed width height left all current d
     → 2 ≤ width → is_shown c ≡ true → 1 ≤ columns c → columns c ≤ 2 → width < length current + columns c
-    → Typed width height (left ++ leaving_rows (print c) d) (all ++ mark (width - 1) (current ++ spaces (width - length current)) ∷ [])
+    → Typed width height (left ++ (printed c d).left) (all ++ mark (width - 1) (current ++ spaces (width - length current)) ∷ [])
     (glyph (columns c) c plain 0) (printed c d).display
 typed-wrap width height c left all current d typed wide is some few full =
     let line : List Cell = current ++ spaces (width - length current) in
@@ -206,10 +191,10 @@ typed-wrap width height c left all current d typed wide is some few full =
     next-row width height rest left all typed.full row _ refl typed.long (length-mark (width - 1) line ∙ long) typed.below
     (row-fill width height left all current d typed) typed.split typed.even
     (plain-mark (width - 1) line (plain-printed current (width - length current) typed.printed)) typed.scrolled in
-    let out : leaving_rows (print c) d ≡ next.out =
-    ap (λ e. leaving_rows (print c) e) typed.is
+    let out : (printed c d).left ≡ next.out =
+    ap (λ e. (printed c e).left) typed.is
     ∙ (wrap-left width height row_there (length current) c cells is some full
-    ∙ (ap (λ l. first_rows (leaving_by_index (at width height l row_there 0)) (at width height l row_there 0)) marked ∙ next.is)) in
+    ∙ (ap (λ l. (index (at width height l row_there 0)).left) marked ∙ next.is)) in
     let indexed : (index (at width height (going_on true (row_there * width + width) cells) row_there 0)).display
     ≡ at width height (joined next.typed.full ++ spaces next.typed.rest) (length next.typed.full) 0 =
     ap (λ l. (index (at width height l row_there 0)).display) marked ∙ next.typed.is in

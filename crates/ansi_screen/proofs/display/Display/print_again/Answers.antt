@@ -6,7 +6,7 @@ use Rattle.ansi_screen.specs.History.{with_left}
 use Rattle.ansi_screen.specs.State.{State}
 use Rattle.ansi_screen.specs.Widths.{columns}
 use Rattle.ansi_screen.specs.Print.{printed, printed_again}
-use Rattle.ansi_screen.proofs.LeavingTable.{again-leaves}
+use Rattle.ansi_screen.proofs.WrapLemmas.{fits-left}
 use Rattle.ansi_screen.proofs.display.Display.print_again.Goals as goal
 
 pub returns-then-self-from : goal.returns-then-self-from
@@ -20,5 +20,5 @@ returns-then-self-from c =
     subst (λ (e : State). e.display.cursor.column + columns c.args.c ≤ e.display.width) c.self.view_is near in
     let room : nat_le (d.cursor.column + columns c.args.c) d.width ≡ true = le-leb (d.cursor.column + columns c.args.c) d.width fits in
     c.print.ensures
-    ∙ (ap (λ rows. record s { display = (printed c.args.c d).display; history = with_left rows s.history }) (again-leaves c.args.c d room)
+    ∙ (ap (λ rows. record s { display = (printed c.args.c d).display; history = with_left rows s.history }) (fits-left c.args.c d fits)
     ∙ ap (λ t. record s { display = if t then (printed c.args.c d).display else d }) (sym room))

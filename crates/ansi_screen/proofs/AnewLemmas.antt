@@ -15,7 +15,7 @@ use Rattle.ansi_screen.specs.Moves.{to_column, settled}
 use Rattle.ansi_screen.specs.Edits.{space, with_cells, erased_part, erased_line, erases_first}
 use Rattle.ansi_screen.specs.Widths.{is_shown, columns}
 use Rattle.ansi_screen.specs.Print.{glyph, wrapped, put, marked, shown, drawn, draws, printed}
-use Rattle.ansi_screen.specs.After.{function_of, is_known, edited, controlled, sequenced, is_repeat, executed, after, after_all}
+use Rattle.ansi_screen.specs.After.{function_of, is_known, edited, sequence_of, control_of, acted, controlled, executed, after, after_all}
 use Rattle.ansi_screen.specs.Reachable.{IsScreen}
 use Rattle.ansi_screen.specs.Laws.{carriage_return, erase_rest, printing, text_columns}
 use Rattle.ansi_screen.proofs.PairLemmas.{length-cut, length-run}
@@ -303,7 +303,7 @@ unfolding erased_line erases_first
 erased-same d xs ys screen_xs screen_ys same free_xs free_ys = above-same d xs ys _ screen_xs screen_ys same free_xs free_ys refl
 
 after-erase : (s : State) → after erase_rest s ≡ record s { display = erased_line 0 (settled s.display); last = None }
-unfolding is_repeat sequenced controlled function_of is_known edited
+unfolding sequence_of controlled function_of is_known edited
 after-erase s = refl
 
 -- What was shown of two screens, and what they keep, is the same; and no row leaves by a character that has room.
@@ -348,11 +348,11 @@ text-same (c ∷ text) d xs ys s t is_xs is_ys beside screen_xs screen_ys same f
 
 return-place : (cells : List Cell) (column : ℕ) (d : Display)
     → (executed 0x0D (in_row cells column d)).display ≡ with_cells cells (to_column 0 d)
-unfolding executed
+unfolding control_of acted
 return-place cells column d = refl
 
 return-stays : (s : State) → (after carriage_return s).history ≡ s.history
-unfolding executed
+unfolding control_of acted
 return-stays s = refl
 
 -- What was printed before, on the row, is lost.

@@ -18,12 +18,12 @@ use Rattle.ansi_screen.specs.Edits.{space}
 use Rattle.ansi_screen.specs.Widths.{is_shown, columns}
 use Rattle.ansi_screen.specs.Print.{glyph, line_drawing, drawn}
 use Rattle.ansi_screen.specs.Modes.{softly_reset}
-use Rattle.ansi_screen.specs.After.{left_to_repeat, State, repeatable, step_of, after, after_all}
+use Rattle.ansi_screen.specs.After.{left_to_repeat, State, sequence_of, repeatable, step_of, after, after_all}
 use Rattle.ansi_screen.specs.Edits.{swapped, main_screen}
 use Rattle.ansi_screen.specs.Text.{first_rows, printed_count}
 use Rattle.ansi_screen.specs.Leaving.{rows_left, all_left}
 use Rattle.ansi_screen.proofs.KeptLemmas.{Change, erase, join, delete, insert, rows_back, rows_on, write, add_mark, to_other, back, renew, drawn_if}
-use Rattle.ansi_screen.proofs.Walk.{MayBe, MayRepeat, Turned, turn}
+use Rattle.ansi_screen.proofs.Walk.{may-do, MayBe, MayRepeat, Turned, turn}
 
 -- a character that may be printed and is shown; such marks, cells and displays
 abbrev pub IsGood : ℕ → Type 0
@@ -179,8 +179,7 @@ PrintsCharacter call = ⊤
 
 may-print : (call : Call) → PrintsCharacter call → MayBe IsCharacter ⊤ call
 may-print (print c) is = is
-may-print (csi_dispatch groups [] ignore final) is = tt
-may-print (csi_dispatch groups (sign ∷ signs) ignore final) is = tt
+may-print (csi_dispatch groups intermediates ignore final) is = may-do (sequence_of intermediates final)
 may-print call is = tt
 
 abbrev pub IsGoodLast : Option ℕ → Type 0

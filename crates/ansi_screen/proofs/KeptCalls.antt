@@ -5,23 +5,19 @@ use Rattle.anstyle_parse.specs.Stream.Call.{Call, print, csi_dispatch}
 use Rattle.ansi_screen.specs.Display.{Display}
 use Rattle.ansi_screen.specs.Edits.{inserted_characters}
 use Rattle.ansi_screen.specs.Print.{printed}
-use Rattle.ansi_screen.specs.After.{State, after, after_all}
+use Rattle.ansi_screen.specs.After.{State, sequence_of, after, after_all}
 use Rattle.ansi_screen.specs.Reachable.{IsScreen}
 use Rattle.ansi_screen.proofs.KeptLemmas.{kept-change}
-use Rattle.ansi_screen.proofs.Walk.{MaySet, MayBe, MayRepeat, walk-inserted, walk-printed, walk}
+use Rattle.ansi_screen.proofs.Walk.{may-do, MayBe, MayRepeat, walk-inserted, walk-printed, walk}
 pub use Rattle.ansi_screen.proofs.KeptLemmas.{columns-few, new-screen}
 
 -- any character may be printed
 abbrev pub Any : ℕ → Type 0
 Any c = ⊤
 
-any-set : (intermediates : List ℕ) → MaySet ⊤ intermediates
-any-set [] = tt
-any-set (sign ∷ signs) = tt
-
 pub any-call : (call : Call) → MayBe Any ⊤ call
 any-call (print c) = tt
-any-call (csi_dispatch groups intermediates ignore final) = any-set intermediates
+any-call (csi_dispatch groups intermediates ignore final) = may-do (sequence_of intermediates final)
 any-call call = tt
 
 pub any-repeat : (last : Option ℕ) → MayRepeat Any last

@@ -1,23 +1,22 @@
 -- Calls that change nothing but the cursor; and what a reset leaves.
-use Rattle.std.proofs.Common.{◌≡◌, inl, inr, ℕ, zero, suc, arith, true, false, List, [], ◌∷◌, ◌++◌, refl, ap, sym, ◌∙◌}
+use Rattle.std.proofs.Common.{◌≡◌, inl, inr, ℕ, zero, suc, true, false, List, [], ◌∷◌, ◌++◌, refl, ap, sym, ◌∙◌}
 use Rattle.std.specs.Prelude.{min, Option, None}
 use Rattle.std.specs.Fn.{iterate}
 use Rattle.std.specs.List.{AllByRecursion}
-use Rattle.std.proofs.lemmas.Bool.{ne_eqb}
 use Rattle.anstyle_parse.specs.Stream.Call.{Call, print, execute, hook, put, unhook, osc_dispatch, csi_dispatch, esc_dispatch}
 use Rattle.anstyle_parse.proofs.Division.Only.{AreCalls-only}
 use Rattle.ansi_screen.specs.declared.place.Place.{Place}
 use Rattle.ansi_screen.specs.declared.function.Move.{Move}
 use Rattle.ansi_screen.specs.declared.function.Move.TheVariants.{Up, Down, Forward, Back, NextLine, PrecedingLine, Column, Line, LineForward, Position, BackTab}
 use Rattle.ansi_screen.specs.declared.function.Function.{Function}
-use Rattle.ansi_screen.specs.declared.function.Function.TheVariants.{Moves, Nothing}
+use Rattle.ansi_screen.specs.declared.function.Function.TheVariants.{Moves}
 use Rattle.ansi_screen.specs.declared.function.Setting.TheVariants.{Rendition}
 use Rattle.ansi_screen.specs.Edits.{renewed}
 use Rattle.ansi_screen.specs.Display.{Display, Picture, fresh}
 use Rattle.ansi_screen.specs.State.{State, Step, stays, stepped}
 use Rattle.ansi_screen.specs.Modes.{restored}
 use Rattle.ansi_screen.specs.Moves.{settled, tabbed_back}
-use Rattle.ansi_screen.specs.After.{function_of, moved, set, controlled, sequenced, escaped, designated, is_repeat, step_of, after, after_all, Shows, first_of, second_of, count}
+use Rattle.ansi_screen.specs.After.{function_of, sequence_of, escape_of, moved, set, acted, controlled, designated, step_of, after, after_all, Shows, first_of, second_of, count}
 use Rattle.ansi_screen.specs.Leaving.{unkept}
 use Rattle.ansi_screen.specs.Laws.{with_shown, reset, save, restore, IsMoveOrStyle}
 use Rattle.ansi_screen.proofs.LeftLemmas.{same-after_all, unkept-after_all}
@@ -49,36 +48,24 @@ moved-cursor LineForward n m d = refl
 moved-cursor Position n m d = refl
 moved-cursor BackTab n m d = back-cursor (min (count n) d.width) (settled d)
 
-controlled-moves : (function : Function) (move : Move) (groups : List (List ℕ)) (d : Display) → function ≡ Moves move
-    → controlled function groups d ≡ stays (moved move (first_of groups) (second_of groups)) (settled d)
+controlled-moves : (function : Function) (move : Move) (groups : List (List ℕ)) (last : Option ℕ) (d : Display) → function ≡ Moves move
+    → controlled function groups last d ≡ stays (moved move (first_of groups) (second_of groups)) (settled d)
 unfolding controlled
-controlled-moves function move groups d is = rw is refl
+controlled-moves function move groups last d is = rw is refl
 
-controlled-style : (final : ℕ) (groups : List (List ℕ)) (d : Display) → final ≡ 0x6D
-    → controlled (function_of final) groups d ≡ set Rendition groups d
+controlled-style : (final : ℕ) (groups : List (List ℕ)) (last : Option ℕ) (d : Display) → final ≡ 0x6D
+    → controlled (function_of final) groups last d ≡ set Rendition groups d
 unfolding controlled function_of
-controlled-style final groups d is = rw is refl
+controlled-style final groups last d is = rw is refl
 
 style-cursor : (groups : List (List ℕ)) (d : Display) → set Rendition groups d ≡ stays (at_place (set Rendition groups d).display.cursor) d
 unfolding set
 style-cursor groups d = refl
 
--- a control sequence that moves the cursor or selects a style is not REP
-repeat-nothing : function_of 0x62 ≡ Nothing
-unfolding function_of
-repeat-nothing = refl
-
-pub no-repeat : (final : ℕ) → (final ≡ 0x62 → ⊥) → is_repeat [] final ≡ false
-unfolding is_repeat
-no-repeat final other = rw (ne_eqb final 0x62 other) refl
-
-move-other : (final : ℕ) (move : Move) → function_of final ≡ Moves move → final ≡ 0x62 → ⊥
-move-other final move is e = let none : function_of final ≡ Nothing = ap function_of e ∙ repeat-nothing in cc
-
-pub step-sequence : (groups : List (List ℕ)) (final : ℕ) (last : Option ℕ) (d : Display) → is_repeat [] final ≡ false
-    → step_of (csi_dispatch groups [] false final) last d ≡ controlled (function_of final) groups d
-unfolding sequenced
-step-sequence groups final last d other = rw other refl
+step-sequence : (groups : List (List ℕ)) (final : ℕ) (last : Option ℕ) (d : Display)
+    → step_of (csi_dispatch groups [] false final) last d ≡ controlled (function_of final) groups last d
+unfolding sequence_of
+step-sequence groups final last d = refl
 
 -- where a call comes to a display that differs in its cursor alone, and no row leaves, it does so itself
 as-place : (d e : Display) (f : Step) → f ≡ stays (λ x. e) d → e ≡ at_place e.cursor d → f ≡ stays (at_place f.display.cursor) d
@@ -88,12 +75,12 @@ as-place d e f is kept =
 kept : (call : Call) (last : Option ℕ) (d : Display) → IsMoveOrStyle call → step_of call last d ≡ stays (at_place (step_of call last d).display.cursor) d
 kept (csi_dispatch groups [] false final) last d (inl (move, is)) =
     as-place d (moved move (first_of groups) (second_of groups) (settled d)) _
-    (step-sequence groups final last d (no-repeat final (move-other final move is)) ∙ controlled-moves (function_of final) move groups d is)
+    (step-sequence groups final last d ∙ controlled-moves (function_of final) move groups last d is)
     (moved-cursor move (first_of groups) (second_of groups) d)
 kept (csi_dispatch groups [] false final) last d (inr is) =
     let styled : Step = step_of (csi_dispatch groups [] false final) last d in
     let same : styled ≡ set Rendition groups d =
-    step-sequence groups final last d (no-repeat final (λ e. omega arith)) ∙ controlled-style final groups d is in
+    step-sequence groups final last d ∙ controlled-style final groups last d is in
     same ∙ (style-cursor groups d ∙ ap (λ (x : Step). stays (at_place x.display.cursor) d) (sym same))
 kept (csi_dispatch groups [] true final) last d never = absurd never
 kept (csi_dispatch groups (mark ∷ marks) ignore final) last d never = absurd never
@@ -136,15 +123,15 @@ unfolding restored
 restored-saved place d absolute = rw absolute refl
 
 after-save : (s : State) → after save s ≡ record s { display = record s.display { saved = s.display.cursor }; last = None }
-unfolding designated escaped
+unfolding designated escape_of acted
 after-save s = refl
 
 after-restore : (s : State) → after restore s ≡ record s { display = restored s.display; last = None }
-unfolding designated escaped
+unfolding designated escape_of acted
 after-restore s = refl
 
 pub after-reset : (s : State) → after reset s ≡ record (stepped renewed s) { last = None }
-unfolding designated escaped
+unfolding designated escape_of acted
 after-reset s = refl
 
 pub enclosed-restores : (calls : List Call) (s : State) → AllByRecursion IsMoveOrStyle calls → s.display.cursor.is_relative ≡ false

@@ -20,7 +20,7 @@ use Rattle.ansi_screen.specs.Display.{Display, home, fresh, blanks}
 use Rattle.ansi_screen.specs.Edits.{index}
 use Rattle.ansi_screen.specs.Widths.{is_shown, columns}
 use Rattle.ansi_screen.specs.Print.{wrapped, with_room, with_cells_of, with_glyph, put, shown, printed}
-use Rattle.ansi_screen.specs.After.{State, new_state, executed, after, after_all, Shows}
+use Rattle.ansi_screen.specs.After.{State, new_state, control_of, acted, executed, after, after_all, Shows}
 use Rattle.ansi_screen.specs.Laws.{carriage_return, line_feed, printing, typing, lines_text, IsNarrow, FitsIn, line_cells, page}
 use Rattle.ansi_screen.proofs.CellLemmas.{cut-none, set-one}
 use Rattle.ansi_screen.proofs.PairLemmas.{right-replicate}
@@ -104,14 +104,14 @@ print-line (c ∷ line) width height row column n front s are long fits is =
 -- CR and LF, above the last row
 pub return-first : (width height row column : ℕ) (cells : List Cell)
     → (executed 0x0D (at width height cells row column)).display ≡ at width height cells row 0
-unfolding executed
+unfolding control_of acted
 return-first width height row column cells =
     let first : min 0 (width - 1) ≡ 0 = omega arith in
     rw first refl
 
 feed-next : (width height row : ℕ) (cells : List Cell) → row + 1 < height
     → (executed 0x0A (at width height cells row 0)).display ≡ at width height cells (row + 1) 0
-unfolding executed index
+unfolding control_of acted index
 feed-next width height row cells below =
     let first : min 0 (width - 1) ≡ 0 = omega arith in
     let other : (row + 1 == height) ≡ false = ne_eqb (row + 1) height (λ e. omega arith) in

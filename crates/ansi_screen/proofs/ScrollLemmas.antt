@@ -1,34 +1,37 @@
 -- As many rows leave by a call as the screen moves up.
 use Rattle.std.proofs.Common.{◌≡◌, ℕ, zero, suc, ◌+◌, ◌-◌, ◌*◌, ◌<◌, ◌≤◌, Bool, true, false, List, [], ◌∷◌, ◌++◌, length, take, drop, refl, ap, sym, subst, ◌∙◌, arith}
-use Rattle.std.specs.Prelude.{◌≢◌, min, nat_lt, nat_le, ◌==◌, ◌&&◌, ◌||◌, not, if◌then◌else◌}
+use Rattle.std.specs.Prelude.{Option, None, Some, min, nat_lt, nat_le, ◌==◌, ◌&&◌, not, if◌then◌else◌}
 use Rattle.std.specs.Fn.{iterate}
+use Rattle.std.specs.List.{AllByRecursion}
+use Rattle.std.specs.Map.{lookup}
 use Rattle.std.proofs.lemmas.Bool.{leb-true, leb-false}
 use Rattle.std.proofs.lemmas.List.{take-append-drop, append-nil}
 use Rattle.std.proofs.Math.Nat.{mul-le-mul_right}
-use borrow.Author.Tests.{eqb-true}
 use Rattle.anstyle_parse.specs.Stream.Call.{Call, print, execute, hook, put, unhook, osc_dispatch, csi_dispatch, esc_dispatch}
 use Rattle.ansi_screen.specs.declared.cell.Cell.{Cell}
+use Rattle.ansi_screen.specs.declared.function.Act.{Act}
+use Rattle.ansi_screen.specs.declared.function.Act.TheVariants.{Backspace, Tab, Index, NewLine, Return, ShiftOut, ShiftIn, Save, Restore, SetStop, ReverseIndex, Reset, SoftReset}
 use Rattle.ansi_screen.specs.declared.function.Function.{Function}
-use Rattle.ansi_screen.specs.declared.function.Function.TheVariants.{Edits, Moves, Sets, Nothing}
-use Rattle.ansi_screen.specs.declared.function.Setting.TheVariants.{Rendition, SetModes, ResetModes, Margins, ScrollUp, ScrollDown, ForwardTab, ClearStops, SaveCursor, RestoreCursor}
+use Rattle.ansi_screen.specs.declared.function.Function.TheVariants.{Edits, Moves, Sets, Acts, Repeats, Nothing}
+use Rattle.ansi_screen.specs.declared.function.Setting.TheVariants.{Rendition, SetModes, ResetModes, SetPrivateModes, ResetPrivateModes, Margins, ScrollUp, ScrollDown, ForwardTab, ClearStops, SaveCursor, RestoreCursor}
 use Rattle.ansi_screen.specs.Cells.{moved_back, within}
 use Rattle.ansi_screen.specs.Display.{Display}
 use Rattle.ansi_screen.specs.Moves.{to_column, settled, tabbed, with_stop, cleared_stops}
 use Rattle.ansi_screen.specs.Edits.{space, row_going_on, rows_up, left_by_scroll, scrolled_up, index}
 use Rattle.ansi_screen.specs.Widths.{is_shown, columns}
 use Rattle.ansi_screen.specs.Print.{wrapped}
-use Rattle.ansi_screen.specs.Modes.{with_mode, with_modes, with_margins, with_charset, restored, first_field}
+use Rattle.ansi_screen.specs.Modes.{with_mode, with_modes, with_margins, with_charset, restored, softly_reset, first_field}
 use Rattle.ansi_screen.specs.State.{State, Step, stays, unchanged}
-use Rattle.ansi_screen.specs.After.{function_of, first_of, second_of, is_bare, count, set, controlled, executed, escaped, designated}
+use Rattle.ansi_screen.specs.After.{controls, sequence_of, control_of, escape_of, first_of, second_of, is_bare, count, set, acted, acted_if, controlled, designated}
 use Rattle.ansi_screen.specs.Leaving.{rows_left}
 use Rattle.ansi_screen.specs.Text.{first_rows}
 use Rattle.ansi_screen.specs.Reachable.{IsScreen}
-use Rattle.ansi_screen.specs.Laws.{EditsNothing, KeepsRows, is_wrapping, before_scroll, once_scrolled}
+use Rattle.ansi_screen.specs.Laws.{KeepsCells, EditsNothing, KeepsRows, is_wrapping, before_scroll, once_scrolled}
 use Rattle.ansi_screen.proofs.SizeLemmas.{length-rows}
 use Rattle.ansi_screen.proofs.WrapLemmas.{printed-left}
 use Rattle.ansi_screen.proofs.PairLemmas.{length-run}
 use Rattle.ansi_screen.proofs.KeptLemmas.{kept-if, kept-column, kept-settled, kept-going_on}
-use Rattle.ansi_screen.proofs.LawLemmas.{moved-cursor, no-repeat, step-sequence}
+use Rattle.ansi_screen.proofs.LawLemmas.{moved-cursor}
 
 -- the cells of a display, moved up by so many rows above the lower margin
 abbrev up_by : ℕ → Display → List Cell
@@ -165,44 +168,63 @@ unfolding restored
 restored-cells d = same-if d.cells d.saved.is_relative _ _ refl refl
 
 -- by a control function
-control-up : (function : Function) (groups : List (List ℕ)) (d : Display) → EditsNothing function → MovesUp d (controlled function groups d)
+act-up : (act : Act) (d : Display) → KeepsCells act → MovesUp d (acted act d)
+unfolding acted softly_reset
+act-up Backspace d steady = still d _ refl refl
+act-up Tab d steady = still d _ refl (tabbed-cells d)
+act-up Index d steady = settled-up d
+act-up NewLine d steady = first-up d
+act-up Return d steady = still d _ refl refl
+act-up ShiftOut d steady = still d _ refl refl
+act-up ShiftIn d steady = still d _ refl refl
+act-up Save d steady = still d _ refl refl
+act-up Restore d steady = still d _ refl (restored-cells d)
+act-up SetStop d steady = still d _ refl refl
+act-up ReverseIndex d never = absurd never
+act-up Reset d never = absurd never
+act-up SoftReset d steady = still d _ refl refl
+
+act-up_if : (act : Option Act) (d : Display) → ((it : Act) → act ≡ Some it → KeepsCells it) → MovesUp d (acted_if act d)
+act-up_if None d steady = still d _ refl refl
+act-up_if (Some act) d steady = act-up act d (steady act refl)
+
+control-up : (function : Function) (groups : List (List ℕ)) (last : Option ℕ) (d : Display) → EditsNothing function → MovesUp d (controlled function groups last d)
 unfolding controlled set
-control-up (Edits edit) groups d never = absurd never
-control-up (Moves move) groups d steady = still d _ refl (ap (λ (e : Display). e.cells) (moved-cursor move (first_of groups) (second_of groups) d))
-control-up (Sets Rendition) groups d steady = still d _ refl refl
-control-up (Sets SetModes) groups d steady = still d _ refl (mode-cells true groups d)
-control-up (Sets ResetModes) groups d steady = still d _ refl (mode-cells false groups d)
-control-up (Sets Margins) groups d steady = still d _ refl (margin-cells (first_of groups) (second_of groups) d)
-control-up (Sets ScrollUp) groups d steady = scrolled-up (count (first_of groups)) d
-control-up (Sets ScrollDown) groups d never = absurd never
-control-up (Sets ForwardTab) groups d steady = still d _ refl (tabs-cells (min (count (first_of groups)) d.width) d)
-control-up (Sets ClearStops) groups d steady = still d _ refl (stop-cells (first_of groups) d)
-control-up (Sets SaveCursor) groups d steady = pick (is_bare groups) (λ bare. still d _ refl refl) (λ numbers. still d _ refl refl)
-control-up (Sets RestoreCursor) groups d steady = pick (is_bare groups) (λ bare. still d _ refl (restored-cells d)) (λ numbers. still d _ refl refl)
-control-up Nothing groups d steady = still d _ refl refl
+control-up (Edits edit) groups last d never = absurd never
+control-up (Moves move) groups last d steady = still d _ refl (ap (λ (e : Display). e.cells) (moved-cursor move (first_of groups) (second_of groups) d))
+control-up (Sets Rendition) groups last d steady = still d _ refl refl
+control-up (Sets SetModes) groups last d steady = still d _ refl (mode-cells true groups d)
+control-up (Sets ResetModes) groups last d steady = still d _ refl (mode-cells false groups d)
+control-up (Sets SetPrivateModes) groups last d never = absurd never
+control-up (Sets ResetPrivateModes) groups last d never = absurd never
+control-up (Sets Margins) groups last d steady = still d _ refl (margin-cells (first_of groups) (second_of groups) d)
+control-up (Sets ScrollUp) groups last d steady = scrolled-up (count (first_of groups)) d
+control-up (Sets ScrollDown) groups last d never = absurd never
+control-up (Sets ForwardTab) groups last d steady = still d _ refl (tabs-cells (min (count (first_of groups)) d.width) d)
+control-up (Sets ClearStops) groups last d steady = still d _ refl (stop-cells (first_of groups) d)
+control-up (Sets SaveCursor) groups last d steady = pick (is_bare groups) (λ bare. still d _ refl refl) (λ numbers. still d _ refl refl)
+control-up (Sets RestoreCursor) groups last d steady = pick (is_bare groups) (λ bare. still d _ refl (restored-cells d)) (λ numbers. still d _ refl refl)
+control-up (Acts act) groups last d steady = act-up act d steady
+control-up Repeats groups last d never = absurd never
+control-up Nothing groups last d steady = still d _ refl refl
 
--- by a control
-executed-up : (byte : ℕ) (d : Display) → MovesUp d (executed byte d)
-unfolding executed
-executed-up byte d =
-    pick (byte == 0x08) (λ is. still d _ refl refl)
-    (λ a. pick (byte == 0x09) (λ is. still d _ refl (tabbed-cells d))
-    (λ b. pick (byte == 0x0A || byte == 0x0B || byte == 0x0C) (λ is. settled-up d)
-    (λ e. pick (byte == 0x0D) (λ is. still d _ refl refl)
-    (λ f. pick (byte == 0x0E) (λ is. still d _ refl refl)
-    (λ g. pick (byte == 0x0F) (λ is. still d _ refl refl) (λ unknown. still d _ refl refl))))))
+-- no control edits cells
+some-is : (a b : Act) → Some a ≡ Some b → a ≡ b
+some-is a b is = cc is
 
--- by an escape sequence
-escaped-up : (final : ℕ) (d : Display) → (final ≢ 0x4D) × (final ≢ 0x63) → MovesUp d (escaped final d)
-unfolding escaped
-escaped-up final d others =
-    pick (final == 0x37) (λ is. still d _ refl refl)
-    (λ a. pick (final == 0x38) (λ is. still d _ refl (restored-cells d))
-    (λ b. pick (final == 0x44) (λ is. settled-up d)
-    (λ e. pick (final == 0x45) (λ is. first-up d)
-    (λ f. pick (final == 0x48) (λ is. still d _ refl refl)
-    (λ g. pick (final == 0x4D) (λ is. absurd (others.0 (eqb-true final 0x4D is)))
-    (λ h. pick (final == 0x63) (λ is. absurd (others.1 (eqb-true final 0x63 is))) (λ unknown. still d _ refl refl)))))))
+keeps-at : (t : Bool) (own : Act) (others : Option Act) (act : Act) → KeepsCells own → (others ≡ Some act → KeepsCells act)
+    → (if t then Some own else others) ≡ Some act → KeepsCells act
+keeps-at true own others act keeps rest is = subst KeepsCells (some-is own act is) keeps
+keeps-at false own others act keeps rest is = rest is
+
+lookup-keeps : (test : ℕ → Bool) (table : List (ℕ × Act)) → AllByRecursion (λ (row : ℕ × Act). KeepsCells row.1) table
+    → (act : Act) → lookup test table ≡ Some act → KeepsCells act
+lookup-keeps test [] are act is = cc is
+lookup-keeps test ((byte, own) ∷ table) are act is = keeps-at (test byte) own (lookup test table) act are.0 (lookup-keeps test table are.1 act) is
+
+control-keeps : (byte : ℕ) (act : Act) → control_of byte ≡ Some act → KeepsCells act
+unfolding control_of
+control-keeps byte = lookup-keeps (λ known. byte == known) controls (tt, (tt, (tt, (tt, (tt, (tt, (tt, (tt, tt))))))))
 
 charset-cells : (mark final : ℕ) (d : Display) → (with_charset mark final d).cells ≡ d.cells
 unfolding with_charset
@@ -238,13 +260,10 @@ printed-up c s =
 moves-up : (s : State) (call : Call) → KeepsRows call → MovesUp (before_scroll call s.display) (scrolling_of call s)
 unfolding designated
 moves-up s (print c) keeps = printed-up c s
-moves-up s (execute byte) keeps = executed-up byte s.display
-moves-up s (csi_dispatch groups [] false final) keeps =
-    subst (MovesUp s.display) (sym (step-sequence groups final s.last s.display (no-repeat final keeps.0)))
-    (control-up (function_of final) groups s.display keeps.1)
-moves-up s (csi_dispatch groups (mark ∷ marks) false final) keeps = absurd keeps
+moves-up s (execute byte) keeps = act-up_if (control_of byte) s.display (control-keeps byte)
+moves-up s (csi_dispatch groups intermediates false final) keeps = control-up (sequence_of intermediates final) groups s.last s.display keeps
 moves-up s (csi_dispatch groups intermediates true final) keeps = still s.display _ refl refl
-moves-up s (esc_dispatch [] false final) keeps = escaped-up final s.display keeps
+moves-up s (esc_dispatch [] false final) keeps = act-up_if (escape_of final) s.display keeps
 moves-up s (esc_dispatch (mark ∷ []) false final) keeps = still s.display _ refl (charset-cells mark final s.display)
 moves-up s (esc_dispatch (mark ∷ other ∷ others) false final) keeps = still s.display _ refl refl
 moves-up s (esc_dispatch intermediates true final) keeps = still s.display _ refl refl

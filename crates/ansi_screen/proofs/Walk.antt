@@ -2,21 +2,23 @@
 -- by it in few ways. So what each change keeps, each call keeps; and what holds of rows that leave in each way, holds of
 -- those that leave by each call.
 use Rattle.std.proofs.Common.{◌≡◌, ℕ, zero, suc, ◌+◌, ◌-◌, ◌<◌, ◌≤◌, Bool, true, false, List, [], ◌∷◌, length, set, refl, ap, subst, arith}
-use Rattle.std.specs.Prelude.{⊤, min, max, nat_lt, nat_le, ◌==◌, ◌&&◌, ◌||◌, not, replicate, if◌then◌else◌, Option, None, Some}
+use Rattle.std.specs.Prelude.{⊤, min, max, nat_lt, nat_le, ◌==◌, ◌&&◌, not, replicate, if◌then◌else◌, Option, None, Some}
 use Rattle.std.specs.Fn.{iterate}
 use Rattle.std.proofs.lemmas.List.{length-set, length-replicate}
 use Rattle.std.proofs.lemmas.Bool.{and_parts, eqb-true, leb-true, not-true}
 use borrow.Author.Tests.{ltb-true, ltb-false, eqb-false}
 use Rattle.anstyle_parse.specs.Stream.Call.{Call, print, execute, hook, put as put_byte, unhook, osc_dispatch, csi_dispatch, esc_dispatch}
 use Rattle.ansi_screen.specs.declared.cell.Cell.{Cell}
+use Rattle.ansi_screen.specs.declared.function.Act.{Act}
+use Rattle.ansi_screen.specs.declared.function.Act.TheVariants.{Backspace, Tab, Index, NewLine, Return, ShiftOut, ShiftIn, Save, Restore, SetStop, ReverseIndex, Reset, SoftReset}
 use Rattle.ansi_screen.specs.declared.function.Edit.{Edit}
 use Rattle.ansi_screen.specs.declared.function.Edit.TheVariants.{InsertCharacters, EraseInDisplay, EraseInLine, InsertLines, DeleteLines, DeleteCharacters, EraseCharacters}
 use Rattle.ansi_screen.specs.declared.function.Move.{Move}
 use Rattle.ansi_screen.specs.declared.function.Move.TheVariants.{Up, Down, Forward, Back, NextLine, PrecedingLine, Column, Line, LineForward, Position, BackTab}
 use Rattle.ansi_screen.specs.declared.function.Setting.{Setting}
-use Rattle.ansi_screen.specs.declared.function.Setting.TheVariants.{Rendition, SetModes, ResetModes, Margins, ScrollUp, ScrollDown, ForwardTab, ClearStops, SaveCursor, RestoreCursor}
+use Rattle.ansi_screen.specs.declared.function.Setting.TheVariants.{Rendition, SetModes, ResetModes, SetPrivateModes, ResetPrivateModes, Margins, ScrollUp, ScrollDown, ForwardTab, ClearStops, SaveCursor, RestoreCursor}
 use Rattle.ansi_screen.specs.declared.function.Function.{Function}
-use Rattle.ansi_screen.specs.declared.function.Function.TheVariants.{Edits, Moves, Sets, Nothing}
+use Rattle.ansi_screen.specs.declared.function.Function.TheVariants.{Edits, Moves, Sets, Acts, Repeats, Nothing}
 use Rattle.ansi_screen.specs.Cells.{going_on}
 use Rattle.ansi_screen.specs.Display.{Display, here, row_start, row_end}
 use Rattle.ansi_screen.specs.State.{Step}
@@ -27,20 +29,26 @@ use Rattle.ansi_screen.specs.Edits.{with_cells, row_goes_on, row_going_on, erase
 use Rattle.ansi_screen.specs.Widths.{is_shown, columns}
 use Rattle.ansi_screen.specs.Print.{wrapped, with_room, with_cells_of, with_glyph, put, marked, shown, draws, printed, printed_again}
 use Rattle.ansi_screen.specs.Modes.{with_charset, restored, with_origin, with_margins, to_alternate, to_main, with_alternate, softly_reset, with_private_mode, with_mode, with_modes, first_field}
-use Rattle.ansi_screen.specs.After.{function_of, first_of, second_of, is_bare, count, is_known, edited, moved, set as set_by, controlled, sequenced, executed, escaped, designated, repeated, is_repeat, step_of}
+use Rattle.ansi_screen.specs.After.{sequence_of, control_of, escape_of, first_of, second_of, is_bare, count, is_known, edited, moved, set as set_by, acted, acted_if, controlled, designated, repeated, step_of}
 use Rattle.ansi_screen.specs.Reachable.{IsScreen}
 use Rattle.ansi_screen.proofs.WholeLemmas.{length-going_on}
 use Rattle.ansi_screen.proofs.KeptLemmas.{drawn_if, Change, go, select, choose, save, restore, erase, join, delete, insert, rows_back, rows_on, write, add_mark, narrow, stop_at, to_other, back, soften, renew, set_wraps, set_inserts, set_visible, set_links, row_end-inside, columns-few}
 
 -- A call, and what REP repeats after it, print none but such characters; and it sets no private mode, where nothing
 -- switches.
-abbrev pub MaySet : Type 0 → List ℕ → Type 0
-MaySet switches [] = ⊤
-MaySet switches (sign ∷ signs) = switches
+abbrev pub MayDo : Type 0 → Function → Type 0
+MayDo switches (Sets SetPrivateModes) = switches
+MayDo switches (Sets ResetPrivateModes) = switches
+MayDo switches function = ⊤
+
+pub may-do : (function : Function) → MayDo ⊤ function
+may-do (Sets SetPrivateModes) = tt
+may-do (Sets ResetPrivateModes) = tt
+may-do function = tt
 
 abbrev pub MayBe : (ℕ → Type 0) → Type 0 → Call → Type 0
 MayBe prints switches (print c) = prints c
-MayBe prints switches (csi_dispatch groups intermediates ignore final) = MaySet switches intermediates
+MayBe prints switches (csi_dispatch groups intermediates ignore final) = MayDo switches (sequence_of intermediates final)
 MayBe prints switches call = ⊤
 
 abbrev pub MayRepeat : (ℕ → Type 0) → Option ℕ → Type 0
@@ -469,71 +477,65 @@ module _ (prints : ℕ → Type 0) (switches : Type 0) (P : Display → Type 0) 
     turn-edited DeleteCharacters n d inside = quiet (walk-deleted (count n) d inside)
     turn-edited EraseCharacters n d inside = quiet (walk-erased_characters (count n) d inside)
 
-    turn-set : (setting : Setting) (groups : List (List ℕ)) (d : Display) → Turn (set_by setting groups) d
+    turn-set : (setting : Setting) (groups : List (List ℕ)) (d : Display) → MayDo switches (Sets setting) → Turn (set_by setting groups) d
     unfolding set_by
-    turn-set Rendition groups d = quiet (by (select groups))
-    turn-set SetModes groups d = quiet (walk-modes (with_mode true) (walk-mode true) groups d)
-    turn-set ResetModes groups d = quiet (walk-modes (with_mode false) (walk-mode false) groups d)
-    turn-set Margins groups d = quiet (walk-margins (first_of groups) (second_of groups) d)
-    turn-set ScrollUp groups d = turn-scrolled_up (count (first_of groups)) d
-    turn-set ScrollDown groups d = quiet (walk-scrolled_down (count (first_of groups)) d)
-    turn-set ForwardTab groups d = quiet (times tabbed walk-tabbed (min (count (first_of groups)) d.width) d)
-    turn-set ClearStops groups d = quiet (walk-cleared (first_of groups) d)
-    turn-set SaveCursor groups d = pick (is_bare groups) (λ bare. quiet (by save)) (λ numbers. rest)
-    turn-set RestoreCursor groups d = pick (is_bare groups) (λ bare. quiet (walk-restored d)) (λ numbers. rest)
+    turn-set Rendition groups d may = quiet (by (select groups))
+    turn-set SetModes groups d may = quiet (walk-modes (with_mode true) (walk-mode true) groups d)
+    turn-set ResetModes groups d may = quiet (walk-modes (with_mode false) (walk-mode false) groups d)
+    turn-set SetPrivateModes groups d may = quiet (walk-modes (with_private_mode true) (walk-private may true) groups d)
+    turn-set ResetPrivateModes groups d may = quiet (walk-modes (with_private_mode false) (walk-private may false) groups d)
+    turn-set Margins groups d may = quiet (walk-margins (first_of groups) (second_of groups) d)
+    turn-set ScrollUp groups d may = turn-scrolled_up (count (first_of groups)) d
+    turn-set ScrollDown groups d may = quiet (walk-scrolled_down (count (first_of groups)) d)
+    turn-set ForwardTab groups d may = quiet (times tabbed walk-tabbed (min (count (first_of groups)) d.width) d)
+    turn-set ClearStops groups d may = quiet (walk-cleared (first_of groups) d)
+    turn-set SaveCursor groups d may = pick (is_bare groups) (λ bare. quiet (by save)) (λ numbers. rest)
+    turn-set RestoreCursor groups d may = pick (is_bare groups) (λ bare. quiet (walk-restored d)) (λ numbers. rest)
 
-    turn-controlled : (function : Function) (groups : List (List ℕ)) (d : Display) → Turn (controlled function groups) d
+    turn-acted : (act : Act) (d : Display) → Turn (acted act) d
+    unfolding acted
+    turn-acted Backspace d = quiet (next (walk-settled d) (walk-column ((settled d).cursor.column - 1) (settled d)))
+    turn-acted Tab d = quiet (walk-tabbed d)
+    turn-acted Index d = next (walk-settled d) (turn-index (settled d))
+    turn-acted NewLine d = next (walk-column 0 d) (turn-index (to_column 0 d))
+    turn-acted Return d = quiet (walk-column 0 d)
+    turn-acted ShiftOut d = quiet (by (choose _))
+    turn-acted ShiftIn d = quiet (by (choose _))
+    turn-acted Save d = quiet (by save)
+    turn-acted Restore d = quiet (walk-restored d)
+    turn-acted SetStop d = quiet (walk-stop true d)
+    turn-acted ReverseIndex d = quiet (next (walk-settled d) (walk-reverse (settled d)))
+    turn-acted Reset d = λ s. record { keeps = by renew s; leaves = taken d s }
+    turn-acted SoftReset d = quiet (walk-softly d)
+
+    turn-acted_if : (act : Option Act) (d : Display) → Turn (acted_if act) d
+    turn-acted_if None d = rest
+    turn-acted_if (Some act) d = turn-acted act d
+
+    turn-controlled : (function : Function) (groups : List (List ℕ)) (last : Option ℕ) (d : Display) → MayDo switches function → MayRepeat prints last
+        → Turn (controlled function groups last) d
     unfolding controlled
-    turn-controlled (Edits edit) groups d =
+    turn-controlled (Edits edit) groups last d may repeats =
         pick (is_known edit (first_of groups)) (λ known. next (walk-settled d) (turn-edited edit (first_of groups) (settled d) (is-settled d))) (λ unknown. rest)
-    turn-controlled (Moves move) groups d =
+    turn-controlled (Moves move) groups last d may repeats =
         quiet (next (walk-settled d) (walk-moved move (first_of groups) (second_of groups) (settled d)))
-    turn-controlled (Sets setting) groups d = turn-set setting groups d
-    turn-controlled Nothing groups d = rest
-
-    turn-sequenced : (groups : List (List ℕ)) (intermediates : List ℕ) (final : ℕ) (d : Display) → MaySet switches intermediates → Turn (sequenced groups intermediates final) d
-    unfolding sequenced
-    turn-sequenced groups [] final d may = turn-controlled (function_of final) groups d
-    turn-sequenced groups (sign ∷ []) final d may =
-        pick (sign == 0x3F && final == 0x68) (λ is. quiet (walk-modes (with_private_mode true) (walk-private may true) groups d))
-        (λ a. pick (sign == 0x3F && final == 0x6C) (λ is. quiet (walk-modes (with_private_mode false) (walk-private may false) groups d))
-        (λ b. pick (sign == 0x21 && final == 0x70) (λ is. quiet (walk-softly d)) (λ unknown. rest)))
-    turn-sequenced groups (sign ∷ second ∷ others) final d may = rest
-
-    turn-executed : (byte : ℕ) (d : Display) → Turn (executed byte) d
-    unfolding executed
-    turn-executed byte d =
-        pick (byte == 0x08) (λ is. quiet (next (walk-settled d) (walk-column ((settled d).cursor.column - 1) (settled d))))
-        (λ a. pick (byte == 0x09) (λ is. quiet (walk-tabbed d))
-        (λ b. pick (byte == 0x0A || byte == 0x0B || byte == 0x0C) (λ is. next (walk-settled d) (turn-index (settled d)))
-        (λ e. pick (byte == 0x0D) (λ is. quiet (walk-column 0 d))
-        (λ f. pick (byte == 0x0E) (λ is. quiet (by (choose _)))
-        (λ g. pick (byte == 0x0F) (λ is. quiet (by (choose _))) (λ unknown. rest))))))
-
-    turn-escaped : (final : ℕ) (d : Display) → Turn (escaped final) d
-    unfolding escaped
-    turn-escaped final d =
-        pick (final == 0x37) (λ is. quiet (by save))
-        (λ a. pick (final == 0x38) (λ is. quiet (walk-restored d))
-        (λ b. pick (final == 0x44) (λ is. next (walk-settled d) (turn-index (settled d)))
-        (λ e. pick (final == 0x45) (λ is. next (walk-column 0 d) (turn-index (to_column 0 d)))
-        (λ f. pick (final == 0x48) (λ is. quiet (walk-stop true d))
-        (λ g. pick (final == 0x4D) (λ is. quiet (next (walk-settled d) (walk-reverse (settled d))))
-        (λ h. pick (final == 0x63) (λ is s. record { keeps = by renew s; leaves = taken d s }) (λ unknown. rest)))))))
+    turn-controlled (Sets setting) groups last d may repeats = turn-set setting groups d may
+    turn-controlled (Acts act) groups last d may repeats = turn-acted act d
+    turn-controlled Repeats groups last d may repeats = quiet (walk-repeated (count (first_of groups)) last d repeats)
+    turn-controlled Nothing groups last d may repeats = rest
 
     turn-designated : (intermediates : List ℕ) (final : ℕ) (d : Display) → Turn (designated intermediates final) d
     unfolding designated
-    turn-designated [] final d = turn-escaped final d
+    turn-designated [] final d = turn-acted_if (escape_of final) d
     turn-designated (sign ∷ []) final d = quiet (walk-charset sign final d)
     turn-designated (sign ∷ second ∷ others) final d = rest
 
     -- each call
     pub turn : (call : Call) (last : Option ℕ) (d : Display) → MayBe prints switches call → MayRepeat prints last → Turn (step_of call last) d
     turn (print c) last d may repeats = turn-printed c d may
-    turn (execute byte) last d may repeats = turn-executed byte d
+    turn (execute byte) last d may repeats = turn-acted_if (control_of byte) d
     turn (csi_dispatch groups intermediates ignore final) last d may repeats =
-        pick ignore (λ more. rest)
-        (λ whole. pick (is_repeat intermediates final) (λ is. quiet (walk-repeated (count (first_of groups)) last d repeats)) (λ no. turn-sequenced groups intermediates final d may))
+        pick ignore (λ more. rest) (λ whole. turn-controlled (sequence_of intermediates final) groups last d may repeats)
     turn (esc_dispatch intermediates ignore final) last d may repeats = pick ignore (λ more. rest) (λ whole. turn-designated intermediates final d)
     turn (hook groups intermediates ignore final) last d may repeats = rest
     turn (put_byte byte) last d may repeats = rest

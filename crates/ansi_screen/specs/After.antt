@@ -2,20 +2,22 @@
 --
 -- Sources: xterm's ctlseqs, "Controls beginning with ESC" and "Functions using CSI"; ECMA-48,
 -- 8.3, for the names.
-use Rattle.std.specs.Prelude.{◌≡◌, ℕ, ◌+◌, ◌-◌, min, max, Option, None, Some, Bool, true, false, ◌&&◌, ◌||◌, not, ◌==◌, nat_le, List, [], ◌∷◌, length, slice_index_or, if◌then◌else◌}
+use Rattle.std.specs.Prelude.{◌≡◌, ℕ, ◌+◌, ◌-◌, min, max, Option, None, Some, Bool, true, false, ◌&&◌, not, ◌==◌, nat_le, List, [], ◌∷◌, length, slice_index_or, if◌then◌else◌}
 use Rattle.std.specs.Fn.{iterate}
 use Rattle.std.specs.Map.{lookup}
 use Rattle.std.specs.Option.{unwrap_or}
 use Rattle.anstyle_parse.specs.Stream.Call.{Call, print, execute, osc_dispatch, csi_dispatch, esc_dispatch}
 use Rattle.anstyle_parse.specs.Stream.Calls.{AreCalls}
+use Rattle.ansi_screen.specs.declared.function.Act.{Act}
+use Rattle.ansi_screen.specs.declared.function.Act.TheVariants.{Backspace, Tab, Index, NewLine, Return, ShiftOut, ShiftIn, Save, Restore, SetStop, ReverseIndex, Reset, SoftReset}
 use Rattle.ansi_screen.specs.declared.function.Edit.{Edit}
 use Rattle.ansi_screen.specs.declared.function.Edit.TheVariants.{InsertCharacters, EraseInDisplay, EraseInLine, InsertLines, DeleteLines, DeleteCharacters, EraseCharacters}
 use Rattle.ansi_screen.specs.declared.function.Move.{Move}
 use Rattle.ansi_screen.specs.declared.function.Move.TheVariants.{Up, Down, Forward, Back, NextLine, PrecedingLine, Column, Line, LineForward, Position, BackTab}
 use Rattle.ansi_screen.specs.declared.function.Setting.{Setting}
-use Rattle.ansi_screen.specs.declared.function.Setting.TheVariants.{Rendition, SetModes, ResetModes, Margins, ScrollUp, ScrollDown, ForwardTab, ClearStops, SaveCursor, RestoreCursor}
+use Rattle.ansi_screen.specs.declared.function.Setting.TheVariants.{Rendition, SetModes, ResetModes, SetPrivateModes, ResetPrivateModes, Margins, ScrollUp, ScrollDown, ForwardTab, ClearStops, SaveCursor, RestoreCursor}
 use Rattle.ansi_screen.specs.declared.function.Function.{Function}
-use Rattle.ansi_screen.specs.declared.function.Function.TheVariants.{Edits, Moves, Sets, Nothing}
+use Rattle.ansi_screen.specs.declared.function.Function.TheVariants.{Edits, Moves, Sets, Acts, Repeats, Nothing}
 use Rattle.ansi_screen.specs.Display.{Display}
 use Rattle.ansi_screen.specs.State.{Step, stays, unchanged, stepped}
 pub use Rattle.ansi_screen.specs.State.{State, new_state, as_shown}
@@ -26,7 +28,7 @@ use Rattle.ansi_screen.specs.Print.{printed, printed_again}
 use Rattle.ansi_screen.specs.Widths.{is_shown, columns}
 use Rattle.ansi_screen.specs.Modes.{with_style, shifted, with_charset, saving, restored, with_margins, with_modes, with_mode, with_private_mode, softly_reset, first_field}
 
--- The control functions by their final bytes.
+-- All that a screen does, by the bytes that ask for it: four tables. First the control sequences, by their final bytes.
 abbrev pub functions : List (ℕ × Function)
 functions =
     -- @ ICH, J ED, K EL; L IL, M DL; P DCH, X ECH
@@ -38,14 +40,42 @@ functions =
     (0x45, Moves NextLine) ∷ (0x46, Moves PrecedingLine) ∷ (0x47, Moves Column) ∷ (0x48, Moves Position) ∷
     (0x5A, Moves BackTab) ∷ (0x60, Moves Column) ∷ (0x61, Moves Forward) ∷
     (0x64, Moves Line) ∷ (0x65, Moves LineForward) ∷ (0x66, Moves Position) ∷
-    -- I CHT, S SU, T SD, g TBC; h SM, l RM, m SGR, r DECSTBM; s SCOSC, u SCORC
+    -- I CHT, S SU, T SD, g TBC; h SM, l RM, m SGR, r DECSTBM; s SCOSC, u SCORC; b REP
     (0x49, Sets ForwardTab) ∷ (0x53, Sets ScrollUp) ∷ (0x54, Sets ScrollDown) ∷ (0x67, Sets ClearStops) ∷
     (0x68, Sets SetModes) ∷ (0x6C, Sets ResetModes) ∷ (0x6D, Sets Rendition) ∷ (0x72, Sets Margins) ∷
-    (0x73, Sets SaveCursor) ∷ (0x75, Sets RestoreCursor) ∷ []
+    (0x73, Sets SaveCursor) ∷ (0x75, Sets RestoreCursor) ∷ (0x62, Repeats) ∷ []
 
--- any other final byte is that of none
+-- those with a mark, by it and their final bytes: ? h DECSET, ? l DECRST, ! p DECSTR
+abbrev pub marked_functions : List ((ℕ × ℕ) × Function)
+marked_functions =
+    ((0x3F, 0x68), Sets SetPrivateModes) ∷ ((0x3F, 0x6C), Sets ResetPrivateModes) ∷ ((0x21, 0x70), Acts SoftReset) ∷ []
+
+-- The controls, by their bytes: BS, HT; LF, VT, FF; CR, SO, SI.
+abbrev pub controls : List (ℕ × Act)
+controls =
+    (0x08, Backspace) ∷ (0x09, Tab) ∷ (0x0A, Index) ∷ (0x0B, Index) ∷ (0x0C, Index) ∷
+    (0x0D, Return) ∷ (0x0E, ShiftOut) ∷ (0x0F, ShiftIn) ∷ []
+
+-- The escape sequences, by their final bytes: ESC 7 DECSC, 8 DECRC, D IND, E NEL, H HTS, M RI, c RIS.
+abbrev pub escapes : List (ℕ × Act)
+escapes =
+    (0x37, Save) ∷ (0x38, Restore) ∷ (0x44, Index) ∷ (0x45, NewLine) ∷ (0x48, SetStop) ∷
+    (0x4D, ReverseIndex) ∷ (0x63, Reset) ∷ []
+
+-- any other bytes are those of none
 unfoldable pub function_of : ℕ → Function
 function_of final = unwrap_or (lookup (λ byte. final == byte) functions) Nothing
+
+unfoldable pub sequence_of : List ℕ → ℕ → Function
+sequence_of [] final = function_of final
+sequence_of (mark ∷ []) final = unwrap_or (lookup (λ (bytes : ℕ × ℕ). mark == bytes.0 && final == bytes.1) marked_functions) Nothing
+sequence_of (mark ∷ other ∷ others) final = Nothing
+
+unfoldable pub control_of : ℕ → Option Act
+control_of byte = lookup (λ known. byte == known) controls
+
+unfoldable pub escape_of : ℕ → Option Act
+escape_of final = lookup (λ byte. final == byte) escapes
 
 -- Parameters are taken by the first field of each group; a missing one is 0. A count is 1,
 -- where 0 is given.
@@ -98,6 +128,8 @@ unfoldable pub set : Setting → List (List ℕ) → Display → Step
 set Rendition groups d = stays (with_style groups) d
 set SetModes groups d = stays (with_modes (with_mode true) groups) d
 set ResetModes groups d = stays (with_modes (with_mode false) groups) d
+set SetPrivateModes groups d = stays (with_modes (with_private_mode true) groups) d
+set ResetPrivateModes groups d = stays (with_modes (with_private_mode false) groups) d
 set Margins groups d = stays (with_margins (first_of groups) (second_of groups)) d
 set ScrollUp groups d = scrolled_up (count (first_of groups)) d
 set ScrollDown groups d = stays (scrolled_down (count (first_of groups))) d
@@ -106,62 +138,53 @@ set ClearStops groups d = stays (cleared_stops (first_of groups)) d
 set SaveCursor groups d = if is_bare groups then stays saving d else unchanged d
 set RestoreCursor groups d = if is_bare groups then stays restored d else unchanged d
 
-unfoldable pub controlled : Function → List (List ℕ) → Display → Step
-controlled (Edits edit) groups d =
+-- What takes no parameters.
+unfoldable pub acted : Act → Display → Step
+acted Backspace d = stays (λ place. to_column (place.cursor.column - 1) place) (settled d)
+acted Tab d = stays tabbed d
+acted Index d = index (settled d)
+acted NewLine d = index (to_column 0 d)
+acted Return d = stays (to_column 0) d
+acted ShiftOut d = stays (shifted true) d
+acted ShiftIn d = stays (shifted false) d
+acted Save d = stays saving d
+acted Restore d = stays restored d
+acted SetStop d = stays (with_stop true) d
+acted ReverseIndex d = stays reverse_index (settled d)
+acted Reset d = renewed d
+acted SoftReset d = stays softly_reset d
+
+-- REP, of a character, or of none
+unfoldable pub repeated : ℕ → Option ℕ → Display → Display
+repeated n None d = d
+repeated n (Some c) d = iterate (printed_again c) (min n d.width) d
+
+unfoldable pub controlled : Function → List (List ℕ) → (last : Option ℕ) → Display → Step
+controlled (Edits edit) groups last d =
     if is_known edit (first_of groups) then edited edit (first_of groups) (settled d) else unchanged d
-controlled (Moves move) groups d = stays (moved move (first_of groups) (second_of groups)) (settled d)
-controlled (Sets setting) groups d = set setting groups d
-controlled Nothing groups d = unchanged d
+controlled (Moves move) groups last d = stays (moved move (first_of groups) (second_of groups)) (settled d)
+controlled (Sets setting) groups last d = set setting groups d
+controlled (Acts act) groups last d = acted act d
+controlled Repeats groups last d = stays (repeated (count (first_of groups)) last) d
+controlled Nothing groups last d = unchanged d
 
--- a control sequence whose intermediates are none; ? for private modes; ! for DECSTR
-unfoldable pub sequenced : List (List ℕ) → List ℕ → ℕ → Display → Step
-sequenced groups [] final d = controlled (function_of final) groups d
-sequenced groups (mark ∷ []) final d =
-    if mark == 0x3F && final == 0x68 then stays (with_modes (with_private_mode true) groups) d
-    else if mark == 0x3F && final == 0x6C then stays (with_modes (with_private_mode false) groups) d
-    else if mark == 0x21 && final == 0x70 then stays softly_reset d
-    else unchanged d
-sequenced groups (mark ∷ other ∷ others) final d = unchanged d
+-- what a byte asks for, if it asks for anything
+abbrev pub acted_if : Option Act → Display → Step
+acted_if None d = unchanged d
+acted_if (Some act) d = acted act d
 
--- BS, HT, LF VT FF, CR, SO, SI
-unfoldable pub executed : ℕ → Display → Step
-executed byte d =
-    if byte == 0x08 then stays (λ place. to_column (place.cursor.column - 1) place) (settled d)
-    else if byte == 0x09 then stays tabbed d
-    else if byte == 0x0A || byte == 0x0B || byte == 0x0C then index (settled d)
-    else if byte == 0x0D then stays (to_column 0) d
-    else if byte == 0x0E then stays (shifted true) d
-    else if byte == 0x0F then stays (shifted false) d
-    else unchanged d
-
--- ESC 7, 8, D, E, H, M, c: DECSC, DECRC, IND, NEL, HTS, RI, RIS
-unfoldable pub escaped : ℕ → Display → Step
-escaped final d =
-    if final == 0x37 then stays saving d
-    else if final == 0x38 then stays restored d
-    else if final == 0x44 then index (settled d)
-    else if final == 0x45 then index (to_column 0 d)
-    else if final == 0x48 then stays (with_stop true) d
-    else if final == 0x4D then stays reverse_index (settled d)
-    else if final == 0x63 then renewed d
-    else unchanged d
+abbrev pub executed : ℕ → Display → Step
+executed byte d = acted_if (control_of byte) d
 
 -- An escape sequence with an intermediate designates a character set.
 unfoldable pub designated : List ℕ → ℕ → Display → Step
-designated [] final d = escaped final d
+designated [] final d = acted_if (escape_of final) d
 designated (mark ∷ []) final d = stays (with_charset mark final) d
 designated (mark ∷ other ∷ others) final d = unchanged d
 
 -- marks, and what has no glyph, are not repeated
 unfoldable pub repeatable : ℕ → Option ℕ
 repeatable c = if is_shown c && not (columns c == 0) then Some c else None
-
-unfoldable pub is_repeat : List ℕ → ℕ → Bool
-is_repeat intermediates final = length intermediates == 0 && final == 0x62
-
-unfoldable pub repeated : ℕ → Option ℕ → Display → Display
-repeated n None d = d
-repeated n (Some c) d = iterate (printed_again c) (min n d.width) d
 
 -- What a call makes of a display, where REP repeats `last`. What more came than a call shows, makes it one that is not
 -- known.
@@ -170,9 +193,7 @@ step_of (print c) last d = printed c d
 step_of (execute byte) last d = executed byte d
 step_of (osc_dispatch parts bell_terminated) last d = stays (commanded parts) d
 step_of (csi_dispatch groups intermediates ignore final) last d =
-    if ignore then unchanged d
-    else if is_repeat intermediates final then stays (repeated (count (first_of groups)) last) d
-    else sequenced groups intermediates final d
+    if ignore then unchanged d else controlled (sequence_of intermediates final) groups last d
 step_of (esc_dispatch intermediates ignore final) last d =
     if ignore then unchanged d else designated intermediates final d
 step_of call last d = unchanged d

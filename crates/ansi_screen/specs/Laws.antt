@@ -1,5 +1,5 @@
 -- What the laws speak of.
-use Rattle.std.specs.Prelude.{◌≡◌, ◌≢◌, ⊤, ◌⊎◌, ℕ, ◌+◌, ◌-◌, ◌≤◌, nat_lt, Bool, false, true, ◌&&◌, not, ◌==◌, if◌then◌else◌, List, [], ◌∷◌, ◌++◌, length, map, replicate, encode_utf8}
+use Rattle.std.specs.Prelude.{◌≡◌, ⊤, ◌⊎◌, ℕ, Some, ◌+◌, ◌-◌, ◌≤◌, nat_lt, Bool, false, true, ◌&&◌, not, ◌==◌, if◌then◌else◌, List, [], ◌∷◌, ◌++◌, length, map, replicate, encode_utf8}
 use Rattle.std.specs.List.{AllByRecursion, flat_map, join_by}
 use Rattle.anstyle_parse.specs.Stream.Call.{Call, print, execute, csi_dispatch, esc_dispatch}
 use Rattle.anstyle_parse.specs.Laws.Lawful.{is_character}
@@ -8,14 +8,16 @@ use Rattle.ansi_screen.specs.declared.cell.Cell.{Cell}
 use Rattle.ansi_screen.specs.declared.cell.Part.TheVariants.{Whole}
 use Rattle.ansi_screen.specs.declared.function.Move.{Move}
 use Rattle.ansi_screen.specs.declared.function.Function.{Function}
-use Rattle.ansi_screen.specs.declared.function.Function.TheVariants.{Edits, Moves, Sets}
-use Rattle.ansi_screen.specs.declared.function.Setting.TheVariants.{ScrollDown}
+use Rattle.ansi_screen.specs.declared.function.Act.{Act}
+use Rattle.ansi_screen.specs.declared.function.Act.TheVariants.{ReverseIndex, Reset}
+use Rattle.ansi_screen.specs.declared.function.Function.TheVariants.{Edits, Moves, Sets, Acts, Repeats}
+use Rattle.ansi_screen.specs.declared.function.Setting.TheVariants.{ScrollDown, SetPrivateModes, ResetPrivateModes}
 use Rattle.ansi_screen.specs.Cells.{plain_cell, blank}
 use Rattle.ansi_screen.specs.Display.{Display, Picture, blanks}
 use Rattle.ansi_screen.specs.Edits.{row_going_on}
 use Rattle.ansi_screen.specs.Widths.{is_shown, columns}
 use Rattle.ansi_screen.specs.Print.{wrapped}
-use Rattle.ansi_screen.specs.After.{State, function_of, step_of}
+use Rattle.ansi_screen.specs.After.{State, function_of, sequence_of, escape_of, step_of}
 
 -- ESC c, ESC 7 and ESC 8: RIS, DECSC, DECRC
 abbrev pub reset : Call
@@ -37,16 +39,24 @@ IsMoveOrStyle (csi_dispatch groups [] false final) = ((move : Move) × (function
 IsMoveOrStyle call = ⊥
 
 -- The calls that edit no cells, but for what they print and scroll up: all but IL, DL, ICH, DCH, ECH, ED,
--- EL and SD; REP; DECSET, DECRST and DECSTR; RI and RIS.
+-- EL and SD; REP; DECSET and DECRST; RI and RIS.
+abbrev pub KeepsCells : Act → Type 0
+KeepsCells ReverseIndex = ⊥
+KeepsCells Reset = ⊥
+KeepsCells act = ⊤
+
 abbrev pub EditsNothing : Function → Type 0
 EditsNothing (Edits edit) = ⊥
 EditsNothing (Sets ScrollDown) = ⊥
+EditsNothing (Sets SetPrivateModes) = ⊥
+EditsNothing (Sets ResetPrivateModes) = ⊥
+EditsNothing (Acts act) = KeepsCells act
+EditsNothing Repeats = ⊥
 EditsNothing function = ⊤
 
 abbrev pub KeepsRows : Call → Type 0
-KeepsRows (csi_dispatch groups [] false final) = (final ≢ 0x62) × EditsNothing (function_of final)
-KeepsRows (csi_dispatch groups (mark ∷ marks) false final) = ⊥
-KeepsRows (esc_dispatch [] false final) = (final ≢ 0x4D) × (final ≢ 0x63)
+KeepsRows (csi_dispatch groups intermediates false final) = EditsNothing (sequence_of intermediates final)
+KeepsRows (esc_dispatch [] false final) = (act : Act) → escape_of final ≡ Some act → KeepsCells act
 KeepsRows call = ⊤
 
 -- whether autowrap comes before a character

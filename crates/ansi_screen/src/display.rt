@@ -18,7 +18,6 @@ use crate::history::History;
 use crate::place::Place;
 use crate::size::{MAX_COLUMNS, MAX_ROWS, MIN_COLUMNS, MIN_ROWS};
 use crate::tabs::reset_stops;
-pub(crate) use performer::first_of;
 use std::alloc::{AllocError, Global};
 use std::marker::Model;
 use std::mem;

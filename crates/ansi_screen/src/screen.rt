@@ -1,9 +1,8 @@
 //! A screen as a performer.
 ghost use Rattle.std.specs.Prelude.{◌≡◌, ◌<◌, ◌≤◌, ◌⊎◌, ℕ, [], false, length, take, IfOk, IfErr};
-ghost use Rattle.ansi_screen.specs.After.{is_repeat};
 
 use crate::cell::Cell;
-use crate::display::{Display, first_of};
+use crate::display::Display;
 use crate::history::History;
 use crate::place::Place;
 use crate::size::{MAX_COLUMNS, MAX_ROWS, MIN_COLUMNS, MIN_ROWS};
@@ -27,14 +26,6 @@ impl Model for Screen {
     ghost Value = { State };
 
     ghost view = { λ s. s.display };
-}
-
-/// Whether a control sequence is REP.
-#[tactic(auto, unfolding(crate::specs::After::is_repeat))]
-fn is_repeat(intermediates: &[u8], final_byte: u8) -> bool
-    ensures { result ≡ is_repeat intermediates.now final_byte }
-{
-    intermediates.is_empty() && final_byte == b'b'
 }
 
 impl Screen {
@@ -309,10 +300,7 @@ impl Perform for Screen {
     }
 
     fn csi_dispatch(&mut self, params: &Params, intermediates: &[u8], ignore: bool, action: u8) {
-        if !ignore && is_repeat(intermediates, action) {
-            let count = first_of(params).max(1);
-            self.display.repeat(count);
-        } else if !ignore {
+        if !ignore {
             self.display.sequence(params, intermediates, action);
         }
         self.display.set_printed(None);

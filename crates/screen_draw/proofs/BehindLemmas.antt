@@ -11,7 +11,7 @@ use Rattle.ansi_screen.specs.Cells.{blank, is_right, cell_at, change, going_on}
 use Rattle.ansi_screen.specs.Display.{Display, home}
 use Rattle.ansi_screen.specs.Edits.{erased_cells}
 use Rattle.ansi_screen.specs.Print.{glyph, with_cells_of, with_glyph, draws}
-use Rattle.ansi_screen.specs.After.{State, after, after_all, designated, escaped}
+use Rattle.ansi_screen.specs.After.{State, after, after_all, designated, escape_of, acted}
 use Rattle.ansi_screen.specs.Reachable.{IsWhole, HasColors, AreCells}
 use Rattle.ansi_screen.proofs.WholeLemmas.{length-put, length-going_on}
 use Rattle.ansi_screen.proofs.LawLemmas.{after_all-append}
@@ -23,7 +23,7 @@ use Rattle.screen_draw.proofs.ScreenLemmas.{Painted, paint}
 use Rattle.screen_draw.proofs.SavedLemmas.{after-place_calls, clear-all}
 
 pub after-save : (s : State) → (after (escape 0x37) s).display ≡ record s.display { saved = s.display.cursor }
-unfolding designated escaped
+unfolding designated escape_of acted
 after-save s = refl
 
 row-inside : (row width height : ℕ) → row < height → row * width + width ≤ height * width

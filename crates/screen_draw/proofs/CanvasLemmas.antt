@@ -16,7 +16,7 @@ use Rattle.ansi_screen.specs.Edits.{with_cells, erased_cells, erased_characters,
 use Rattle.ansi_screen.specs.Widths.{is_shown, columns}
 use Rattle.ansi_screen.specs.Print.{wrapped, with_room, with_glyph, put, marked, shown, draws, printed}
 use Rattle.ansi_screen.specs.Modes.{with_private_mode, with_origin}
-use Rattle.ansi_screen.specs.After.{State, after, after_all, function_of, is_known, edited, moved, controlled, sequenced, is_repeat}
+use Rattle.ansi_screen.specs.After.{State, after, after_all, function_of, is_known, edited, moved, controlled, sequence_of}
 use Rattle.ansi_screen.specs.Reachable.{HasColors}
 use Rattle.ansi_screen.proofs.CellLemmas.{cut-none}
 use Rattle.ansi_screen.proofs.LawLemmas.{after_all-append}
@@ -80,7 +80,7 @@ pub after-position : (line row column : ℕ) (s : State)
     → (if s.display.cursor.is_relative then min (s.display.top + line) (s.display.bottom - 1) else line) ≡ row
     → row < s.display.height → column < s.display.width
     → (after (position line column) s).display ≡ record s.display { cursor = record s.display.cursor { row = row; column = column } }
-unfolding sequenced is_repeat function_of controlled moved
+unfolding sequence_of function_of controlled moved
 after-position line row column s is below inside =
     let line_is : max 1 (line + 1) - 1 ≡ line = omega arith in
     let column_is : max 1 (column + 1) - 1 ≡ column = omega arith in
@@ -148,7 +148,7 @@ after-mark c s is letter none some =
 -- ECH of one cell
 pub after-erase : (s : State) → s.display.cursor.column < s.display.width
     → (after (sequence (1 ∷ []) 0x58) s).display ≡ erased_cells (here s.display) (here s.display + 1) s.display
-unfolding sequenced is_repeat function_of controlled is_known edited erased_characters
+unfolding sequence_of function_of controlled is_known edited erased_characters
 after-erase s inside =
     let column : min s.display.cursor.column (s.display.width - 1) ≡ s.display.cursor.column = omega arith in
     let end : min (row_end s.display) (here s.display + 1) ≡ here s.display + 1 = omega arith in
@@ -157,7 +157,7 @@ after-erase s inside =
 -- ECH of several
 pub after-erase_run : (n : ℕ) (s : State) → s.display.cursor.column + suc n ≤ s.display.width
     → (after (sequence (suc n ∷ []) 0x58) s).display ≡ erased_cells (here s.display) (here s.display + suc n) s.display
-unfolding sequenced is_repeat function_of controlled is_known edited erased_characters
+unfolding sequence_of function_of controlled is_known edited erased_characters
 after-erase_run n s inside =
     let column : min s.display.cursor.column (s.display.width - 1) ≡ s.display.cursor.column = omega arith in
     let count : max 1 (suc n) ≡ suc n = omega arith in
@@ -167,7 +167,7 @@ after-erase_run n s inside =
 -- ED of all
 pub after-clear : (s : State) → s.display.cursor.column < s.display.width
     → (after (sequence (2 ∷ []) 0x4A) s).display ≡ erased_cells 0 (length s.display.cells) s.display
-unfolding sequenced is_repeat function_of controlled is_known edited erased_display erases_from_row erased_part
+unfolding sequence_of function_of controlled is_known edited erased_display erases_from_row erased_part
 after-clear s inside =
     let column : min s.display.cursor.column (s.display.width - 1) ≡ s.display.cursor.column = omega arith in
     rw column refl

@@ -12,7 +12,7 @@ use Rattle.ansi_screen.specs.Display.{Display, home, blanks, stops, row_end}
 use Rattle.ansi_screen.specs.Edits.{erased_cells}
 use Rattle.ansi_screen.specs.Moves.{to_row, to_position}
 use Rattle.ansi_screen.specs.Modes.{with_private_mode, with_alternate, to_main, into_margins, restored, with_margins}
-use Rattle.ansi_screen.specs.After.{State, after, after_all, function_of, controlled, sequenced, is_repeat, set as set_by}
+use Rattle.ansi_screen.specs.After.{State, after, after_all, function_of, controlled, sequence_of, set as set_by}
 use Rattle.ansi_screen.specs.Reachable.{IsScreen, HasContents}
 use Rattle.ansi_screen.proofs.LawLemmas.{after_all-append}
 use Rattle.screen_draw.specs.Draw.{escape, sequence, private_mode, plain_calls}
@@ -147,7 +147,7 @@ rows_at x false is all =
 
 after-all_rows : (d : Display) (cells : List Cell) (p q : Place) (s : State) → IsScreen d → HasContents d → s.display ≡ main_of d cells p q
     → (r : Place) × ((after (sequence (0 ∷ []) 0x72) s).display ≡ record (main_of d cells r q) { top = 0; bottom = d.height })
-unfolding sequenced is_repeat function_of controlled set_by with_margins
+unfolding sequence_of function_of controlled set_by with_margins
 after-all_rows d cells p q s screen contents at =
     let (r, all) = rows_at (main_of d cells p q) _ refl
     (λ small.

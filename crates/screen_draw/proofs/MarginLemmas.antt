@@ -7,7 +7,7 @@ use Rattle.anstyle_parse.specs.Stream.Call.{Call}
 use Rattle.ansi_screen.specs.declared.place.Place.{Place}
 use Rattle.ansi_screen.specs.Display.{Display, row_cells}
 use Rattle.ansi_screen.specs.Modes.{with_margins}
-use Rattle.ansi_screen.specs.After.{State, after_all, function_of, controlled, sequenced, is_repeat, set as set_by}
+use Rattle.ansi_screen.specs.After.{State, after_all, function_of, controlled, sequence_of, set as set_by}
 use Rattle.ansi_screen.specs.Reachable.{IsScreen, HasContents, HasMargins}
 use Rattle.ansi_screen.proofs.LawLemmas.{after_all-append}
 use Rattle.screen_draw.specs.Draw.{margins_calls}
@@ -32,7 +32,7 @@ margins-home d top bottom absolute two inside =
 
 after-margins_calls : (b d : Display) (s : State) → s.display ≡ d → d.cursor.is_relative ≡ false → b.top + 2 ≤ b.bottom → b.bottom ≤ d.height
     → (after_all (margins_calls b) s).display ≡ record d { top = b.top; bottom = b.bottom; cursor = record d.cursor { row = 0; column = 0 } }
-unfolding sequenced is_repeat function_of controlled set_by
+unfolding sequence_of function_of controlled set_by
 after-margins_calls b d s is absolute two inside =
     ap (with_margins (b.top + 1) b.bottom) is ∙ margins-home d b.top b.bottom absolute two inside
 

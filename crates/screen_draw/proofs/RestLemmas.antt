@@ -13,7 +13,7 @@ use Rattle.ansi_screen.specs.Cells.{blank}
 use Rattle.ansi_screen.specs.Display.{Display, home, blanks, stops, letters}
 use Rattle.ansi_screen.specs.Moves.{to_row, to_position, with_stop}
 use Rattle.ansi_screen.specs.Modes.{with_private_mode, with_alternate, to_alternate, restored, with_margins}
-use Rattle.ansi_screen.specs.After.{State, after, after_all, designated, escaped, function_of, moved, controlled, sequenced, is_repeat, set as set_by}
+use Rattle.ansi_screen.specs.After.{State, after, after_all, designated, escape_of, acted, function_of, moved, controlled, sequence_of, set as set_by}
 use Rattle.ansi_screen.specs.Reachable.{IsScreen, HasContents, HasMargins}
 use Rattle.ansi_screen.proofs.LawLemmas.{after_all-append}
 use Rattle.screen_draw.specs.Draw.{escape, sequence, private_mode, is_erased, covered_calls, screen_calls, stop_calls, stops_calls}
@@ -49,7 +49,7 @@ restored_at base cells q saved false is top bottom row = refl
 
 after-restore : (base : Display) (cells : List Cell) (q saved : Place) (s : State) → base.top ≡ 0 → base.bottom ≡ base.height → saved.row < base.height
     → s.display ≡ on (record base { saved = saved }) cells q → (after (escape 0x38) s).display ≡ on (record base { saved = saved }) cells saved
-unfolding designated escaped restored
+unfolding designated escape_of acted restored
 after-restore base cells q saved s top bottom row is =
     ap (λ (e : State). (after (escape 0x38) e).display) (ap (λ (d : Display). record s { display = d }) is) ∙ restored_at base cells q saved _ refl top bottom row
 
@@ -124,7 +124,7 @@ set-stop (z ∷ front) back x y = ap (λ l. z ∷ l) (set-stop front back x y)
 -- CHA
 pub after-column : (column : ℕ) (base : Display) (cells : List Cell) (p : Place) (s : State) → s.display ≡ on base cells p → column < base.width
     → (after (sequence ((column + 1) ∷ []) 0x47) s).display ≡ on base cells (record p { column = column })
-unfolding sequenced is_repeat function_of controlled moved
+unfolding sequence_of function_of controlled moved
 after-column column base cells p s is inside =
     let width : s.display.width ≡ base.width = ap (λ (d : Display). d.width) is in
     let count : max 1 (column + 1) - 1 ≡ column = omega arith in
@@ -132,11 +132,11 @@ after-column column base cells p s is inside =
     rw (count, there) (ap (λ (d : Display). record d { cursor = record d.cursor { column = column } }) is)
 
 pub after-set : (s : State) → (after (escape 0x48) s).display ≡ with_stop true s.display
-unfolding designated escaped
+unfolding designated escape_of acted
 after-set s = refl
 
 pub after-unset : (s : State) → (after (sequence (0 ∷ []) 0x67) s).display ≡ with_stop false s.display
-unfolding sequenced is_repeat function_of controlled set_by
+unfolding sequence_of function_of controlled set_by
 after-unset s = refl
 
 abbrev pub tabbed : Display → List Bool → Display
@@ -222,7 +222,7 @@ margins_at base cells k d false is margins order top bottom height =
 pub after-margins : (base : Display) (cells : List Cell) (k : ℕ) (d : Display) (s : State) → s.display ≡ on base cells (record home { column = k })
     → HasMargins d → d.top < d.bottom → d.bottom ≤ d.height → base.top ≡ 0 → base.bottom ≡ base.height → base.height ≡ d.height
     → (p : Place) × ((after (sequence ((d.top + 1) ∷ d.bottom ∷ []) 0x72) s).display ≡ on (record base { top = d.top; bottom = d.bottom }) cells p) × (p.charsets ≡ letters)
-unfolding sequenced is_repeat function_of controlled set_by with_margins
+unfolding sequence_of function_of controlled set_by with_margins
 after-margins base cells k d s is margins order inside top bottom height =
     let last : (if nat_lt 0 d.bottom && nat_lt d.bottom base.height then d.bottom else base.height) ≡ d.bottom = bottom-is d.bottom base.height _ refl (omega arith) (omega arith) in
     let (p, at, letter) = margins_at base cells k d _ refl margins order top bottom height in

@@ -11,24 +11,24 @@ use Rattle.ansi_screen.specs.declared.cell.Cell.{Cell}
 use Rattle.ansi_screen.specs.declared.place.Place.{Place}
 use Rattle.ansi_screen.specs.Display.{Display}
 use Rattle.ansi_screen.specs.Modes.{with_private_mode, with_mode, with_style, with_charsets, with_charset}
-use Rattle.ansi_screen.specs.After.{State, after, after_all, function_of, controlled, sequenced, executed, designated, is_repeat, set as set_by}
+use Rattle.ansi_screen.specs.After.{State, after, after_all, function_of, controlled, sequence_of, control_of, acted, designated, set as set_by}
 use Rattle.ansi_screen.proofs.LawLemmas.{after_all-append}
 use Rattle.screen_draw.specs.Draw.{escape, sequence, private_mode, set_or_reset, select, charsets_calls, plain_calls, place_calls, covered_calls, screen_calls, stops_calls, cursor_calls, modes_calls, shown_screen_calls, drawn_calls, position, wrap_calls, last_column, last_cell}
 use Rattle.screen_draw.specs.Laws.{HasModes}
 
 -- a private mode; IRM; a style
 pub after-private : (mode : ℕ) (on : Bool) (s : State) → (after (private_mode mode on) s).display ≡ with_private_mode on mode s.display
-unfolding sequenced is_repeat
+unfolding sequence_of controlled set_by
 after-private mode true s = refl
 after-private mode false s = refl
 
 pub after-insert : (on : Bool) (s : State) → (after (sequence (4 ∷ []) (set_or_reset on)) s).display ≡ record s.display { inserts = on }
-unfolding sequenced is_repeat function_of controlled set_by with_mode
+unfolding sequence_of function_of controlled set_by with_mode
 after-insert true s = refl
 after-insert false s = refl
 
 pub after-select : (style : Style) (s : State) → (after (select style) s).display ≡ with_style (codes_of style) s.display
-unfolding sequenced is_repeat function_of controlled set_by
+unfolding sequence_of function_of controlled set_by
 after-select style s = refl
 
 -- the three modes
@@ -46,7 +46,7 @@ after-modes drawn s =
 pub after-sets : (g0 g1 uses : Bool) (s : State)
     → (after_all (charsets_calls (record { g0_draws = g0; g1_draws = g1; uses_g1 = uses })) s).display
     ≡ with_charsets (record { g0_draws = g0; g1_draws = g1; uses_g1 = uses }) s.display
-unfolding designated executed with_charset
+unfolding designated control_of acted with_charset
 after-sets true true true s = refl
 after-sets true true false s = refl
 after-sets true false true s = refl

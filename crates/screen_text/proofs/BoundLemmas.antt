@@ -14,7 +14,7 @@ use Rattle.ansi_screen.specs.declared.cell.Marks.TheVariants.{Unmarked, One, Two
 use Rattle.ansi_screen.specs.Cells.{is_right}
 use Rattle.ansi_screen.specs.Display.{Display, row_cells}
 use Rattle.ansi_screen.specs.Edits.{swapped, main_screen}
-use Rattle.ansi_screen.specs.After.{State, new_state, step_of, executed, after, after_all}
+use Rattle.ansi_screen.specs.After.{State, new_state, step_of, control_of, acted, after, after_all}
 use Rattle.ansi_screen.specs.Text.{marks_text, cell_text, used, is_unprinted, goes_on, printed_count, printed_rows, first_rows}
 use Rattle.ansi_screen.specs.Leaving.{rows_left, all_left}
 use Rattle.ansi_screen.specs.Laws.{carriage_return, line_feed}
@@ -149,7 +149,7 @@ module _ (width height : ℕ) where
       )
 
   same-hidden : (s : State) → hidden_rows (after carriage_return s).display ≡ hidden_rows s.display
-  unfolding executed
+  unfolding control_of acted
   same-hidden s = refl
 
   -- by what is given of a call

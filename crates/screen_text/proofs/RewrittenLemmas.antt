@@ -8,7 +8,7 @@ use Rattle.ansi_screen.specs.Display.{Display}
 use Rattle.ansi_screen.specs.Widths.{columns}
 use Rattle.ansi_screen.specs.Print.{printed}
 use Rattle.ansi_screen.specs.Edits.{erases_first, erased_part, erased_line}
-use Rattle.ansi_screen.specs.After.{State, function_of, is_known, edited, controlled, sequenced, is_repeat, executed, after, after_all}
+use Rattle.ansi_screen.specs.After.{State, function_of, is_known, edited, controlled, sequence_of, executed, control_of, acted, after, after_all}
 use Rattle.ansi_screen.specs.Leaving.{rows_left, all_left}
 use Rattle.ansi_screen.specs.Reachable.{IsScreen}
 use Rattle.ansi_screen.specs.Laws.{carriage_return, line_feed, erase_rest, printing, text_columns}
@@ -46,19 +46,19 @@ printing-width (c ∷ text) s screen fits =
     printing-width text (after (print c) s) (kept-after (print c) s screen) (omega arith) ∙ width
 
 pub return-left : (s : State) → rows_left carriage_return s ≡ []
-unfolding executed
+unfolding control_of acted
 return-left s = refl
 
 erase-left : (s : State) → rows_left erase_rest s ≡ []
-unfolding is_repeat sequenced controlled function_of is_known edited
+unfolding sequence_of controlled function_of is_known edited
 erase-left s = refl
 
 return-column : (d : Display) → (executed 0x0D d).display.cursor.column ≡ min 0 (d.width - 1)
-unfolding executed
+unfolding control_of acted
 return-column d = refl
 
 return-width : (d : Display) → (executed 0x0D d).display.width ≡ d.width
-unfolding executed
+unfolding control_of acted
 return-width d = refl
 
 -- a row that is written anew
@@ -154,14 +154,14 @@ rewritten-shown s earlier later before text screen room fits =
 
 -- A row that is erased, and a carriage return: the same as these the other way round, when the rest of the row is erased.
 erased-returned : (s : State) → 2 ≤ s.display.width → after_all (erase_line ∷ carriage_return ∷ []) s ≡ after_all (carriage_return ∷ erase_rest ∷ []) s
-unfolding is_repeat sequenced controlled function_of is_known edited executed erased_line erases_first erased_part
+unfolding sequence_of controlled function_of is_known edited control_of acted erased_line erases_first erased_part
 erased-returned s wide =
     let first : min 0 (s.display.width - 1) ≡ 0 = omega arith in
     let place : s.display.cursor.row * s.display.width + 0 ≡ s.display.cursor.row * s.display.width = omega arith in
     rw (first, first, place) refl
 
 wipe-left : (s : State) → all_left (erase_line ∷ carriage_return ∷ []) s ≡ []
-unfolding is_repeat sequenced controlled function_of is_known edited executed
+unfolding sequence_of controlled function_of is_known edited control_of acted
 wipe-left s = refl
 
 pub wiped-shown : (s : State) (earlier later : List Call) (before : List ℕ) → IsScreen (after_all (given_all earlier) s).display
@@ -204,7 +204,7 @@ wiped-shown s earlier later before screen room =
 
 -- A carriage return that is given twice.
 return-twice : (s : State) → after carriage_return (after carriage_return s) ≡ after carriage_return s
-unfolding executed
+unfolding control_of acted
 return-twice s = refl
 
 pub returned-shown : (s : State) (earlier later : List Call)

@@ -11,7 +11,7 @@ use Rattle.ansi_screen.specs.Edits.{index}
 use Rattle.ansi_screen.specs.Widths.{is_shown, columns}
 use Rattle.ansi_screen.specs.Print.{glyph, printed}
 use Rattle.ansi_screen.specs.State.{State, Step}
-use Rattle.ansi_screen.specs.After.{executed, after, after_all}
+use Rattle.ansi_screen.specs.After.{executed, control_of, acted, after, after_all}
 use Rattle.ansi_screen.specs.Leaving.{rows_left, all_left}
 use Rattle.ansi_screen.specs.Laws.{carriage_return, line_feed, is_wrapping}
 use Rattle.ansi_screen.proofs.WrapLemmas.{left_by_wrap, printed-left, fits-left}
@@ -99,7 +99,7 @@ module _ (width height : ℕ) (left all : List (List Cell)) (current : List Cell
 
 -- CR and LF
 feed-index : (width height row : ℕ) (cells : List Cell) → executed 0x0A (at width height cells row 0) ≡ index (at width height cells row 0)
-unfolding executed
+unfolding control_of acted
 feed-index width height row cells =
     let first : min 0 (width - 1) ≡ 0 = omega arith in
     rw first refl

@@ -2,11 +2,11 @@
 ghost use Rattle.std.specs.Prelude.{◌≡◌, ◌<◌, drop};
 ghost use Rattle.anstyle_parse.specs.Views.Params.{groups_shown, groups_left};
 ghost use Rattle.ansi_screen.specs.State.{changed, stepped};
-ghost use Rattle.ansi_screen.specs.After.{first_of, second_of, is_bare, count, edited, moved, set, controlled, sequenced, executed, escaped, designated};
+ghost use Rattle.ansi_screen.specs.After.{first_of, second_of, is_bare, count, edited, moved, set, acted, acted_if, escape_of, controlled, sequence_of, executed, designated};
 
 use super::Display;
 use super::modes::first_field;
-use crate::function::{Edit, Function, Move, Setting};
+use crate::function::{Act, Edit, Function, Move, Setting};
 use anstyle_parse::{Params, ParamsIter};
 
 /// The first field of the next group; 0, where there is no group left.
@@ -21,7 +21,7 @@ fn next_field(groups: &mut ParamsIter<'_>) -> u16
 }
 
 /// The first field of the first group; 0, where there is none.
-pub(crate) fn first_of(params: &Params) -> u16
+fn first_of(params: &Params) -> u16
     ensures { result ≡ first_of (groups_shown params.now) }
 {
     next_field(&mut params.iter())
@@ -94,16 +94,20 @@ impl Display {
     fn set(&mut self, setting: Setting, params: &Params)
         ensures { self.new ≡ stepped (set setting (groups_shown params.now)) self.old }
     {
-        let (first, second) = two_fields(params);
         match setting {
             Setting::Rendition => self.select_style(params),
             Setting::SetModes => self.set_modes(true, params),
             Setting::ResetModes => self.set_modes(false, params),
-            Setting::Margins => self.set_margins(first, second),
-            Setting::ScrollUp => self.scroll_up(first.max(1)),
-            Setting::ScrollDown => self.scroll_down(first.max(1)),
-            Setting::ForwardTab => self.tab_times(first.max(1)),
-            Setting::ClearStops => self.clear_stops(first),
+            Setting::SetPrivateModes => self.set_private_modes(true, params),
+            Setting::ResetPrivateModes => self.set_private_modes(false, params),
+            Setting::Margins => {
+                let (first, last) = two_fields(params);
+                self.set_margins(first, last);
+            }
+            Setting::ScrollUp => self.scroll_up(first_of(params).max(1)),
+            Setting::ScrollDown => self.scroll_down(first_of(params).max(1)),
+            Setting::ForwardTab => self.tab_times(first_of(params).max(1)),
+            Setting::ClearStops => self.clear_stops(first_of(params)),
             Setting::SaveCursor => {
                 if is_bare(params) {
                     self.save();
@@ -117,9 +121,43 @@ impl Display {
         }
     }
 
+    /// What takes no parameters.
+    #[tactic(auto, unfolding(crate::specs::After::acted))]
+    fn act(&mut self, act: Act)
+        ensures { self.new ≡ stepped (acted act) self.old }
+    {
+        match act {
+            Act::Backspace => {
+                self.settle();
+                self.back(1);
+            }
+            Act::Tab => self.tab(),
+            Act::Index => {
+                self.settle();
+                self.index();
+            }
+            Act::NewLine => {
+                self.to_column(0);
+                self.index();
+            }
+            Act::Return => self.to_column(0),
+            Act::ShiftOut => self.shift(true),
+            Act::ShiftIn => self.shift(false),
+            Act::Save => self.save(),
+            Act::Restore => self.restore(),
+            Act::SetStop => self.set_stop(true),
+            Act::ReverseIndex => {
+                self.settle();
+                self.reverse_index();
+            }
+            Act::Reset => self.reset(),
+            Act::SoftReset => self.soft_reset(),
+        }
+    }
+
     #[tactic(auto, unfolding(crate::specs::After::controlled))]
     fn control(&mut self, function: Function, params: &Params)
-        ensures { self.new ≡ stepped (controlled function (groups_shown params.now)) self.old }
+        ensures { self.new ≡ stepped (controlled function (groups_shown params.now) self.old.last) self.old }
     {
         match function {
             Function::Edits(edit) => {
@@ -135,75 +173,35 @@ impl Display {
                 self.go(to, number, column);
             }
             Function::Sets(setting) => self.set(setting, params),
+            Function::Acts(act) => self.act(act),
+            Function::Repeats => self.repeat(first_of(params).max(1)),
             Function::Nothing => {}
         }
     }
 
     /// A control sequence of which nothing was dropped.
-    #[tactic(auto, unfolding(crate::specs::After::sequenced))]
     pub(crate) fn sequence(&mut self, params: &Params, intermediates: &[u8], final_byte: u8)
-        ensures { self.new ≡ stepped (sequenced (groups_shown params.now) intermediates.now final_byte) self.old }
+        ensures { self.new ≡ stepped (controlled (sequence_of intermediates.now final_byte) (groups_shown params.now) self.old.last)
+            self.old }
     {
-        match intermediates {
-            [] => self.control(Function::of(final_byte), params),
-            [mark] => {
-                if *mark == b'?' && final_byte == b'h' {
-                    self.set_private_modes(true, params);
-                } else if *mark == b'?' && final_byte == b'l' {
-                    self.set_private_modes(false, params);
-                } else if *mark == b'!' && final_byte == b'p' {
-                    self.soft_reset();
-                }
-            }
-            _ => {}
-        }
+        self.control(Function::of_sequence(intermediates, final_byte), params);
     }
 
     /// A control.
-    #[tactic(auto, unfolding(crate::specs::After::executed))]
     pub(crate) fn execute(&mut self, byte: u8)
         ensures { self.new ≡ stepped (executed byte) self.old }
     {
-        match byte {
-            0x08 => {
-                self.settle();
-                self.back(1);
-            }
-            b'\t' => self.tab(),
-            b'\n' | 0x0B | 0x0C => {
-                self.settle();
-                self.index();
-            }
-            b'\r' => self.to_column(0),
-            0x0E => self.shift(true),
-            0x0F => self.shift(false),
-            _ => {}
+        if let Some(act) = Act::of_control(byte) {
+            self.act(act);
         }
     }
 
     /// An escape sequence without intermediates.
-    #[tactic(auto, unfolding(crate::specs::After::escaped))]
     fn escape(&mut self, final_byte: u8)
-        ensures { self.new ≡ stepped (escaped final_byte) self.old }
+        ensures { self.new ≡ stepped (acted_if (escape_of final_byte)) self.old }
     {
-        match final_byte {
-            b'7' => self.save(),
-            b'8' => self.restore(),
-            b'D' => {
-                self.settle();
-                self.index();
-            }
-            b'E' => {
-                self.to_column(0);
-                self.index();
-            }
-            b'H' => self.set_stop(true),
-            b'M' => {
-                self.settle();
-                self.reverse_index();
-            }
-            b'c' => self.reset(),
-            _ => {}
+        if let Some(act) = Act::of_escape(final_byte) {
+            self.act(act);
         }
     }
 

@@ -9,9 +9,8 @@ use Rattle.ansi_html.proofs.SoundLemmas.{IsSound, IsSound-none, IsSound-of}
 use Rattle.ansi_html.proofs.StyledLemmas.{HaveLinks}
 use Rattle.ansi_screen.specs.declared.cell.Cell.{Cell}
 use Rattle.ansi_screen.specs.After.{State, after, after_all}
-use Rattle.ansi_screen.specs.Display.{Display}
 use Rattle.ansi_screen.specs.Leaving.{rows_left, all_left}
-use Rattle.ansi_screen.specs.Text.{used, is_unprinted, goes_on, printed_rows}
+use Rattle.ansi_screen.specs.Text.{used, is_unprinted, goes_on}
 use Rattle.screen_text.specs.Lines.{open_after, showing}
 use Rattle.screen_text.specs.Rows.{Handed, leaving, command, commands, all_handed}
 use Rattle.screen_text.specs.Shown.{given_all}

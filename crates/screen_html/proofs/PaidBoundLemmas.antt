@@ -15,9 +15,8 @@ use Rattle.ansi_html.proofs.LengthLemmas.{AtMost, AtMost-span_end, AtMost-span_b
 use Rattle.ansi_html.proofs.StyledLemmas.{styled_html-append, shown_after-append}
 use Rattle.ansi_screen.specs.declared.cell.Cell.{Cell}
 use Rattle.ansi_screen.specs.After.{State, after, after_all}
-use Rattle.ansi_screen.specs.Display.{Display}
 use Rattle.ansi_screen.specs.Leaving.{rows_left, all_left}
-use Rattle.ansi_screen.specs.Text.{goes_on, printed_rows}
+use Rattle.ansi_screen.specs.Text.{goes_on}
 use Rattle.screen_text.specs.Lines.{open_after, showing}
 use Rattle.screen_text.specs.Rows.{Handed, leaving, command, commands, all_handed}
 use Rattle.screen_text.specs.Shown.{given, given_all, shown_text}

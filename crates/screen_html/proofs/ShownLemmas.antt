@@ -10,8 +10,7 @@ use Rattle.ansi_html.specs.Styled.{Styled, styled_html, shown_after, all_html, b
 use Rattle.ansi_html.proofs.StyledLemmas.{styled_html-append, shown_after-append}
 use Rattle.ansi_screen.specs.declared.cell.Cell.{Cell}
 use Rattle.ansi_screen.specs.After.{State, after_all}
-use Rattle.ansi_screen.specs.Display.{Display}
-use Rattle.ansi_screen.specs.Text.{cell_text, used, is_unprinted, goes_on, printed_rows}
+use Rattle.ansi_screen.specs.Text.{cell_text, used, is_unprinted, goes_on}
 use Rattle.ansi_screen.specs.Leaving.{all_left}
 use Rattle.screen_text.specs.declared.performer.ShownWriter.{ShownWriter}
 use Rattle.screen_text.specs.Lines.{row_text, rows_text, open_after, closing, showing, row_text_at, after_row as after_line, after_command as after_text_command}

@@ -1,6 +1,6 @@
 -- Rows that leave by few bytes find room.
-use Rattle.std.proofs.Common.{◌≡◌, ℕ, suc, ◌+◌, ◌*◌, ◌-◌, ◌≤◌, Bool, true, false, List, [], ◌∷◌, ◌++◌, length, drop, refl, sym, ap, subst, ◌∙◌, inl, inr, arith}
-use Rattle.std.specs.Prelude.{Option, None, Some, ◌⊎◌, min, if◌then◌else◌}
+use Rattle.std.proofs.Common.{◌≡◌, ℕ, suc, ◌+◌, ◌*◌, ◌-◌, ◌≤◌, Bool, true, false, List, [], ◌∷◌, ◌++◌, length, refl, sym, ap, subst, ◌∙◌, inl, inr, arith}
+use Rattle.std.specs.Prelude.{Option, None, Some, ◌⊎◌, if◌then◌else◌}
 use Rattle.std.proofs.lemmas.List.{length-append, length-drop}
 use Rattle.std.proofs.Math.Nat.{suc-mul, mul-le-mul_right}
 use Rattle.anstyle_parse.specs.Stream.Call.{Call}
@@ -12,9 +12,9 @@ use Rattle.anstyle_parse.proofs.Division.Only.{AreCalls-only}
 use Rattle.anstyle_parse.proofs.Machine.CallCounts.{step_calls-few}
 use Rattle.ansi_screen.specs.declared.cell.Cell.{Cell}
 use Rattle.ansi_screen.specs.After.{State, new_state, after, after_all}
-use Rattle.ansi_screen.specs.History.{Kept, keep_last, kept_after, kept_after_all, with_left}
+use Rattle.ansi_screen.specs.History.{Kept, kept_after, kept_after_all, with_left}
 use Rattle.ansi_screen.specs.Leaving.{rows_left}
-use Rattle.ansi_screen.proofs.LeavingTable.{leaving, length-left}
+use Rattle.ansi_screen.proofs.LeavingTable.{length-left}
 use Rattle.ansi_screen.proofs.LeftLemmas.{left_none, left_some, with_left-append}
 use Rattle.ansi_screen.proofs.SizeLemmas.{HasSize, sized-after, sized-after_all, few-leave}
 use Rattle.screen_answers.specs.Kept.{is_kept, rows_kept, all_kept}

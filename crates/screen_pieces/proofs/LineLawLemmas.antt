@@ -14,7 +14,6 @@ use Rattle.screen_text.specs.Lines.{showing}
 use Rattle.screen_text.proofs.CleanLemmas.{good-showing}
 use Rattle.screen_answers.specs.Kept.{is_kept, rows_kept, all_kept}
 use Rattle.screen_html.specs.Links.{no_links}
-use Rattle.screen_html.specs.Page.{all_links}
 use Rattle.screen_html.proofs.CellLemmas.{prints-bytes}
 use Rattle.screen_html.proofs.HandedLemmas.{AreKept, kept-none}
 use Rattle.screen_html.proofs.WholeLemmas.{kept-all}

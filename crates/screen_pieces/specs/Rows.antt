@@ -1,6 +1,5 @@
 -- Which rows are written, by a number.
 use Rattle.std.specs.Prelude.{ℕ, List, ◌++◌, ◌==◌, if◌then◌else◌}
-use Rattle.ansi_html.specs.declared.scheme.Styling.{Styling}
 use Rattle.ansi_screen.specs.declared.cell.Cell.{Cell}
 use Rattle.ansi_screen.specs.Text.{printed_rows}
 use Rattle.screen_text.specs.Lines.{showing}

@@ -47,8 +47,7 @@ fn by_rows(alloc: Global, size: ShownSize, form: Form, log: &[u8]) -> Option<Vec
 /// What a screen of this size showed of it, converted further.
 fn by_screen(alloc: Global, size: ShownSize, how: How, log: &[u8]) -> Option<Vec<u8>>
     requires { CanBeShown size }
-    ensures { IfSome result
-        (λ written. IsTextOf (converted how (Some (screen_for size log.now))) log.now written.items) }
+    ensures { IfSome result (λ text. IsTextOf (converted how (Some (screen_for size log.now))) log.now text.items) }
 {
     match size.screen(alloc, log) {
         Ok(screen) => converted(alloc, Some(screen), how, log),

@@ -20,8 +20,7 @@ use without_hidden::WithoutHidden;
 /// What a performer writes of a log; `None` where memory is wanting, here as below.
 fn of_stream<P: WritingPerformer<Memory> + Drop>(performer: P, log: &[u8]) -> Option<Vec<u8>>
     requires { IsEmpty (P.output_in performer) }
-    ensures { IfSome result
-        (λ written. Writes (P.text_from performer) (P.ending_from performer) log.now written.items) }
+    ensures { IfSome result (λ text. Writes (P.text_from performer) (P.ending_from performer) log.now text.items) }
 {
     let mut following = Following::new(performer);
     if following.take(log) {

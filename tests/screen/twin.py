@@ -293,6 +293,45 @@ class Display:
         self.wraps, self.inserts, self.is_visible = True, False, True
         self.cursor.draws, self.cursor.shift, self.cursor.style = (False, False), 0, styles.PLAIN
 
+    # -------------------------------------------------------------- another size
+
+    def fitted(self, row, width):
+        """A row in so many columns; where its end is another, it no longer goes on."""
+        if width < len(row):
+            row, half = row[:width], row[width]
+            return row[:-1] + [(" ", EMPTY, "", False, row[-1][4])] if half[1] == RIGHT else row
+        if len(row) < width:
+            row = row[:-1] + [(*row[-1][:3], False, row[-1][4])]
+        return row + self.spaces(width - len(row), styles.PLAIN)
+
+    def placed(self, place, width, height):
+        pending = place.column == self.width
+        place.row, place.column = min(place.row, height - 1), min(place.column, width - (not pending))
+
+    def resize(self, width, height):
+        """Rows below the cursor are cut first, then those at the top leave; where there are to be more, those that left
+        come back."""
+        if (width, height) == (self.width, self.height):
+            return
+        first = max(0, self.cursor.row + 1 - height)
+        back = 0 if self.is_alternate else min(max(0, height - self.height), len(self.left))
+        if not self.is_alternate:
+            self.left += [self.row(row) for row in range(first)]
+        rows = [self.fitted(row, width) for row in self.left]
+        self.left, back = rows[: len(rows) - back], rows[len(rows) - back :]
+        self.cursor.row, self.cursor.is_relative = self.cursor.row + len(back) - first, False
+        for place in self.cursor, self.saved, self.hidden_saved:
+            self.placed(place, width, height)
+        self.cells = self.framed(self.cells, back, first, width, height)
+        self.hidden = self.framed(self.hidden, [], first, width, height)
+        self.tabs = self.tabs[:width] + [column % 8 == 0 for column in range(self.width, width)]
+        self.width, self.height, self.top, self.bottom = width, height, 0, height
+
+    def framed(self, cells, back, first, width, height):
+        rows = [cells[row * self.width : (row + 1) * self.width] for row in range(first, min(self.height, first + height))]
+        fitted = sum(back + [self.fitted(row, width) for row in rows], [])
+        return fitted + self.spaces(width * height - len(fitted), styles.PLAIN)
+
     # -------------------------------------------------------------- calls
 
     def execute(self, byte):

@@ -77,7 +77,7 @@ cells-if true xs ys first second = first
 cells-if false xs ys first second = second
 
 -- edits of them
-cells-cut : (place : ℕ) (cells : List Cell) → AreCells cells → AreCells (cut place cells)
+pub cells-cut : (place : ℕ) (cells : List Cell) → AreCells cells → AreCells (cut place cells)
 unfolding cut
 cells-cut place cells are =
     let before : Cell = emptied (cell_at (place - 1) cells) in
@@ -86,7 +86,7 @@ cells-cut place cells are =
     (cells-set (set cells (place - 1) before) place behind (cell-emptied (cell_at place cells) (cells-at cells place are))
     (cells-set cells (place - 1) before (cell-emptied (cell_at (place - 1) cells) (cells-at cells (place - 1) are)) are)) are
 
-cells-going_on : (on : Bool) (end : ℕ) (cells : List Cell) → AreCells cells → AreCells (going_on on end cells)
+pub cells-going_on : (on : Bool) (end : ℕ) (cells : List Cell) → AreCells cells → AreCells (going_on on end cells)
 unfolding going_on
 cells-going_on on end cells are =
     let old : IsCell (cell_at (end - 1) cells) = cells-at cells (end - 1) are in

@@ -6,6 +6,7 @@ pub mod BlankLemmas
 pub mod GridLemmas
 pub mod MovedLemmas
 pub mod CoveredLemmas
+pub mod ResizeLemmas
 pub mod ShiftLemmas
 pub mod PairLemmas
 pub mod GoingLemmas
@@ -36,6 +37,7 @@ pub mod SwitchLemmas
 pub mod FollowingLemmas
 pub mod ColorLemmas
 pub mod ContentLemmas
+pub mod ResizedLemmas
 pub mod HistoryLemmas
 pub mod HandedLemmas
 mod EqualityLemmas

@@ -17,6 +17,7 @@ pub mod History
 pub mod Ring
 pub mod After
 pub mod Leaving
+pub mod Resize
 pub mod Size
 pub mod Text
 pub mod Laws

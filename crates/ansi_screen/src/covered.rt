@@ -4,6 +4,8 @@ ghost use Rattle.ansi_style.specs.Style.{plain};
 ghost use Rattle.ansi_screen.specs.Cells.{blank};
 ghost use Rattle.ansi_screen.specs.Grid.{blank_grid, with_list};
 
+mod resize;
+
 use crate::cell::Cell;
 use crate::grid::{Grid, numbers};
 use crate::memory::{RowMemory, into_rows, memory_for_rows};

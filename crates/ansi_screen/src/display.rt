@@ -9,6 +9,7 @@ mod moves;
 mod parts;
 mod performer;
 mod print;
+mod resize;
 
 use crate::cell::Cell;
 use crate::covered::Covered;

@@ -4,11 +4,13 @@ ghost use Rattle.ansi_style.specs.Style.{plain};
 ghost use Rattle.ansi_screen.specs.Cells.{blank, cell_at, rows_of, marked_before, going_on, within, change, erased, moved_back, moved_on, deleted, inserted};
 ghost use Rattle.ansi_screen.specs.Damage.{HasHistory, KeepsColumns, IsOutside, span_at};
 ghost use Rattle.ansi_screen.specs.Following.{copied};
-ghost use Rattle.ansi_screen.specs.Grid.{blank_grid, with_list, IsBlankFrom, IsOrder};
+ghost use Rattle.ansi_screen.specs.Grid.{blank_grid, with_list, upto, IsBlankFrom, IsOrder};
 ghost use Rattle.ansi_screen.specs.History.{kept_after, kept_after_all, with_left};
 ghost use Rattle.ansi_screen.specs.Print.{glyph};
-ghost use Rattle.ansi_screen.specs.Reachable.{RowsBegin, ArePaired};
+ghost use Rattle.ansi_screen.specs.Reachable.{RowsBegin, ArePaired, IsWhole};
 ghost use Rattle.ansi_screen.specs.Runs.{with_glyphs};
+
+mod resize;
 
 use crate::cell::Cell;
 use crate::damage::Damage;
@@ -51,8 +53,9 @@ impl Model for Grid {
 }
 
 /// So many numbers, from 0.
-#[tactic(auto, using(crate::proofs::MovedLemmas::order_push, crate::proofs::MovedLemmas::order_none))]
+#[tactic(auto, using(crate::proofs::MovedLemmas::order_push, crate::proofs::MovedLemmas::order_none, crate::proofs::ResizeLemmas::upto-push))]
 pub(crate) fn numbers(alloc: Global, count: u16) -> Result<Vec<u16>, AllocError>
+    ensures numbers { IfOk result (λ order. order.items ≡ upto count) }
     ensures length { IfOk result (λ order. length order.items ≡ count) }
     ensures order { IfOk result (λ order. IsOrder count order.items) }
 {
@@ -213,6 +216,7 @@ impl Grid {
         requires { row < self.now.height }
         ensures cells { result.now ≡ take self.now.width (drop (row * self.now.width) self.now.cells) }
         ensures columns { length result.now ≡ self.now.width }
+        ensures whole { IsWhole (length result.now) result.now }
     {
         let at = usize::from(self.order[row]);
         self.rows[at].as_slice()

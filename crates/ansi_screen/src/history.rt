@@ -5,6 +5,8 @@ ghost use Rattle.ansi_screen.specs.Reachable.{IsWhole};
 ghost use Rattle.ansi_screen.specs.Ring.{IsMade};
 ghost use Rattle.std.specs.Vec.{vec_capacity};
 
+mod resize;
+
 use crate::cell::Cell;
 use crate::memory::{RowMemory, memory_for_rows};
 use crate::row::{Row, copied_rows};
@@ -108,6 +110,7 @@ impl History {
     #[inline]
     pub fn counts(&self) -> (usize, usize)
         ensures kept { result.0 ≡ length self.now.rows }
+        ensures few { length self.now.rows ≤ self.now.most }
         ensures left { result.1 ≡ self.now.left }
     {
         (self.count, self.left)
@@ -119,6 +122,7 @@ impl History {
         ensures within { IfSome result (λ row. number < length self.now.rows) }
         ensures cells { IfSome result (λ row. row.0.now ≡ slice_index_or self.now.rows number []) }
         ensures columns { IfSome result (λ row. length row.0.now ≡ self.now.columns) }
+        ensures whole { IfSome result (λ row. IsWhole self.now.columns row.0.now) }
         ensures written { IfSome result (λ row. row.1 ≤ length row.0.now) }
         ensures rest { IfSome result (λ row. IsBlankFrom row.1 row.0.now) }
     {

@@ -7,6 +7,7 @@ ghost use Rattle.ansi_screen.specs.Damage.{KeepsColumns};
 ghost use Rattle.ansi_screen.specs.Grid.{AreRows, IsBlankFrom, IsBlankBeside};
 ghost use Rattle.ansi_screen.specs.Print.{glyph};
 ghost use Rattle.ansi_screen.specs.Reachable.{ArePaired, IsWhole};
+ghost use Rattle.ansi_screen.specs.Resize.{fitted};
 ghost use Rattle.ansi_screen.specs.Runs.{with_glyphs};
 
 use crate::cell::Cell;
@@ -275,10 +276,39 @@ impl Row {
         }
     }
 
+    /// One of so many cells, with these as far as there is room for them; plain blanks follow. `Err` means that memory
+    /// is wanting.
+    pub(crate) fn fitted(alloc: Global, width: usize, cells: &[Cell]) -> Result<Row, AllocError>
+        requires some { 0 < length cells.now }
+        requires whole { IsWhole (length cells.now) cells.now }
+        ensures cells { IfOk result (λ row. row ≡ fitted width cells.now) }
+        ensures length { IfOk result (λ row. length row ≡ width) }
+        ensures whole { IfOk result (λ row. IsWhole width row) }
+    {
+        let mut row = Row::new(alloc, width)?;
+        row.fit(cells);
+        Ok(row)
+    }
+
+    /// On blanks come these cells, as far as there is room for them.
+    fn fit(&mut self, cells: &[Cell])
+        requires blank { self.old ≡ replicate (length self.old) (blank plain) }
+        requires some { 0 < length cells.now }
+        requires whole { IsWhole (length cells.now) cells.now }
+        ensures cells { self.new ≡ fitted (length self.old) cells.now }
+        ensures length { length self.new ≡ length self.old }
+        ensures whole { IsWhole (length self.old) self.new }
+    {
+        let end = self.cells.len();
+        runs::fit(self.cells.as_mut_slice(), cells);
+        self.written.join(0, end);
+    }
+
     /// Its cells.
     #[inline]
     pub(crate) fn as_slice(&self) -> &[Cell]
-        ensures { result.now ≡ self.now }
+        ensures cells { result.now ≡ self.now }
+        ensures whole { IsWhole (length result.now) result.now }
     {
         self.cells.as_slice()
     }

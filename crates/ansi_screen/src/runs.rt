@@ -5,6 +5,7 @@ ghost use Rattle.ansi_screen.specs.Cells.{blank, is_right, cell_at, cut, marked_
 ghost use Rattle.ansi_screen.specs.Grid.{IsBlankFrom};
 ghost use Rattle.ansi_screen.specs.Print.{glyph};
 ghost use Rattle.ansi_screen.specs.Reachable.{ArePaired};
+ghost use Rattle.ansi_screen.specs.Resize.{narrowed, widened, fitted};
 ghost use Rattle.ansi_screen.specs.Runs.{glyphs, with_glyphs};
 ghost use Rattle.ansi_screen.specs.Text.{goes_on};
 
@@ -186,6 +187,47 @@ pub(crate) fn set_goes_on(cells: &mut [Cell], end: usize, on: bool)
     ensures length { length cells.new ≡ length cells.old }
 {
     cells[end - 1].goes_on = on;
+}
+
+/// The first of these cells, as many as there is room for; a wide character that loses a half becomes a blank.
+fn narrow(cells: &mut [Cell], others: &[Cell])
+    requires { length cells.old < length others.now }
+    ensures { cells.new ≡ narrowed (length cells.old) others.now }
+{
+    let width = cells.len();
+    cells.copy_from_slice(&others[..width]);
+    if 0 < width && others[width].is_right() {
+        cells[width - 1] = others[width - 1].emptied();
+    }
+}
+
+/// These cells, which no longer go on, before blanks.
+fn widen(cells: &mut [Cell], others: &[Cell])
+    requires blank { cells.old ≡ replicate (length cells.old) (blank plain) }
+    requires some { 0 < length others.now }
+    requires more { length others.now < length cells.old }
+    ensures { cells.new ≡ widened (length cells.old) others.now }
+{
+    let end = others.len();
+    cells[..end].copy_from_slice(others);
+    set_goes_on(&mut cells[..end], end, false);
+}
+
+/// On blanks come these cells, as far as there is room for them.
+#[tactic(auto, unfolding(crate::specs::Resize::fitted))]
+pub(crate) fn fit(cells: &mut [Cell], others: &[Cell])
+    requires blank { cells.old ≡ replicate (length cells.old) (blank plain) }
+    requires some { 0 < length others.now }
+    ensures fitted { cells.new ≡ fitted (length cells.old) others.now }
+    ensures length { length cells.new ≡ length cells.old }
+{
+    if cells.len() < others.len() {
+        narrow(cells, others);
+    } else if others.len() < cells.len() {
+        widen(cells, others);
+    } else {
+        cells.copy_from_slice(others);
+    }
 }
 
 /// A character of so many columns, in a link or in none. A wide one that it takes a half of becomes blanks.

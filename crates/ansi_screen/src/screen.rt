@@ -15,7 +15,7 @@ use std::marker::Model;
 /// A terminal's screen: cells in rows, the cursor, margins, tabs and modes, and the alternate
 /// screen.
 ///
-/// Memory is taken where a screen is made or copied, and nowhere else.
+/// Memory is taken where a screen is made, copied or resized, and nowhere else.
 #[derive(Drop)]
 pub struct Screen {
     display: Display,
@@ -51,6 +51,7 @@ impl Screen {
     ghost use Rattle.ansi_screen.specs.History.{nothing_kept};
     ghost use Rattle.ansi_screen.specs.Leaving.{all_left, with_room_alone, with_kept};
     ghost use Rattle.ansi_screen.specs.Following.{following, IsShownOf, HasSizeOf};
+    ghost use Rattle.ansi_screen.specs.Resize.{in_size_if_other};
     ghost use Rattle.ansi_screen.specs.Damage.{KeepsColumns, HasHistory};
 
     /// A blank screen of so many columns and rows, with the cursor at its top left. `Err` means
@@ -128,6 +129,25 @@ impl Screen {
         ensures stays { IfErr result (λ _. self.new ≡ self.old) }
     {
         self.display.keep(alloc, most)
+    }
+
+    /// Takes another size, as xterm does. Where there are fewer rows, those below the cursor are cut first, and then rows
+    /// leave at the top of the main screen, and are kept if any are; of the hidden one as many are cut. Where there are
+    /// more, the last of the kept rows come back to the main screen while it shows, and blank ones follow. Columns are cut
+    /// or blank ones added, of rows that are kept too; a wide character that loses a half becomes a blank, and a row of
+    /// which the end moves no longer goes on. Margins and origin mode are reset, saved places come within the screen, tab
+    /// stops stay, and new columns have one in each eighth. All counts as changed. The same size changes nothing.
+    ///
+    /// Memory is taken anew. `Err` means that it is wanting; then the screen is as it was.
+    pub fn resize(&mut self, alloc: Global, columns: usize, rows: usize) -> Result<(), AllocError>
+        requires min_columns { MIN_COLUMNS ≤ columns }
+        requires max_columns { columns ≤ MAX_COLUMNS }
+        requires min_rows { MIN_ROWS ≤ rows }
+        requires max_rows { rows ≤ MAX_ROWS }
+        ensures resized { IfOk result (λ _. self.new ≡ in_size_if_other columns rows self.old) }
+        ensures stays { IfErr result (λ _. self.new ≡ self.old) }
+    {
+        self.display.resize(alloc, columns, rows)
     }
 
     /// How many columns it has.

@@ -1,0 +1,212 @@
+-- Rows in another number of columns, and grids of them.
+use Rattle.std.proofs.Common.{◌≡◌, ℕ, zero, suc, ◌+◌, ◌-◌, ◌*◌, ◌<◌, ◌≤◌, Bool, true, false, ◌&&◌, List, [], ◌∷◌, ◌++◌, length, get_or, take, drop, set, refl, ap, sym, ◌∙◌, subst, inl, inr, arith}
+use Rattle.std.specs.Prelude.{min, map, replicate, nat_lt, None, if◌then◌else◌}
+use Rattle.std.proofs.lemmas.Bool.{lt-ltb, and_right}
+use Rattle.std.proofs.lemmas.List.{append_assoc, length-append, length-drop, length-map, length-replicate, length-take-le, map-append, drop-drop, take_at, take_all, take-set-le, set-append_left, get_or_past, get_or-replicate, take-replicate, drop-replicate, replicate-append-replicate}
+use Rattle.std.proofs.Math.Seq.{take-suc, take-set-lt}
+use Rattle.std.proofs.Math.Nat.{add-mul, mul-le-mul_right, suc-mul}
+use borrow.Author.Tests.{ltb-true, ltb-false}
+use Rattle.ansi_style.specs.Style.{plain}
+use Rattle.ansi_screen.specs.declared.cell.Cell.{Cell}
+use Rattle.ansi_screen.specs.Cells.{blank, emptied, is_right, cell_at, cut, going_on, rows_of}
+use Rattle.ansi_screen.specs.Grid.{Grid, flat, in_order, upto, AreRows, IsBlankBeside}
+use Rattle.ansi_screen.specs.Reachable.{ArePaired, IsWhole}
+use Rattle.ansi_screen.specs.Resize.{narrowed, widened, fitted, all_fitted, framed, rows_from}
+use Rattle.ansi_screen.proofs.CellLemmas.{cut-none}
+use Rattle.ansi_screen.proofs.GridLemmas.{flat-blank}
+use Rattle.ansi_screen.proofs.PairLemmas.{length-cut, whole-cut, clear-cut, paired-append, paired-take, paired-first, paired-replicate, right-replicate}
+use Rattle.ansi_screen.proofs.WholeLemmas.{length-going_on, whole-going_on}
+
+-- numbers in order, and rows in this order
+pub upto-push : (n m : ℕ) (xs : List ℕ) → m ≡ n + 1 → xs ≡ upto n → xs ++ n ∷ [] ≡ upto m
+upto-push n m xs next is =
+    let one : suc n ≡ m = omega (arith, next) in
+    ap (λ l. l ++ n ∷ []) is ∙ ap upto one
+
+in_order-upto : (rows : List (List Cell)) (n : ℕ) → n ≤ length rows → in_order (upto n) rows ≡ take n rows
+in_order-upto rows zero inside = refl
+in_order-upto rows (suc n) inside =
+    map-append (λ (at : ℕ). get_or rows at []) (upto n) (n ∷ [])
+    ∙ (ap (λ l. l ++ get_or rows n [] ∷ []) (in_order-upto rows n (omega (arith, inside)))
+    ∙ sym (take-suc rows n [] (omega (arith, inside))))
+
+pub in_order-all : (rows : List (List Cell)) (order : List ℕ) → order ≡ upto (length rows) → in_order order rows ≡ rows
+in_order-all rows order is =
+    ap (λ l. in_order l rows) is ∙ (in_order-upto rows (length rows) (omega arith) ∙ take_all (length rows) rows (omega arith))
+
+pub length-upto : (n : ℕ) → length (upto n) ≡ n
+length-upto zero = refl
+length-upto (suc n) = length-append (upto n) (n ∷ []) ∙ omega (arith, length-upto n)
+
+-- fewer columns: no wide character is cut, or one is
+pub narrow-none : (w : ℕ) (xs : List Cell) → is_right (cell_at w xs).part ≡ false → take w xs ≡ narrowed w xs
+narrow-none w xs free = ap (take w) (cut-none xs w (and_right (nat_lt 0 w) (is_right (cell_at w xs).part) free))
+
+pub narrow-half : (w : ℕ) (xs : List Cell) → 0 < w → is_right (cell_at w xs).part ≡ true
+    → set (take w xs) (w - 1) (emptied (cell_at (w - 1) xs)) ≡ narrowed w xs
+unfolding cut
+narrow-half w xs some half =
+    let is : nat_lt 0 w ≡ true = lt-ltb 0 w some in
+    let left : Cell = emptied (cell_at (w - 1) xs) in
+    rw (is, half)
+    (sym (take-set-lt w xs (w - 1) left (omega (arith, some)))
+    ∙ sym (take-set-le w (set xs (w - 1) left) w (emptied (cell_at w xs)) (omega arith)))
+
+-- how many cells a row has then
+fitted-long : (w : ℕ) (row : List Cell) (t u : Bool) → nat_lt w (length row) ≡ t → nat_lt (length row) w ≡ u → length (fitted w row) ≡ w
+unfolding fitted
+fitted-long w row true u few more =
+    rw few (length-take-le w (cut w row) (omega (arith, ltb-true w (length row) few, length-cut w row)))
+fitted-long w row false true few more =
+    rw (few, more) (omega (
+      arith,
+      length-append (going_on false (length row) row) (replicate (w - length row) (blank plain)),
+      length-going_on false (length row) row,
+      length-replicate (w - length row) (blank plain),
+      ltb-true (length row) w more,
+    ))
+fitted-long w row false false few more = rw (few, more) (omega (arith, ltb-false w (length row) few, ltb-false (length row) w more))
+
+pub length-fitted : (w : ℕ) (row : List Cell) → length (fitted w row) ≡ w
+length-fitted w row = fitted-long w row _ _ refl refl
+
+-- Its halves are in pairs, as they were.
+fitted-pairs : (w : ℕ) (row : List Cell) (t u : Bool) → nat_lt w (length row) ≡ t → nat_lt (length row) w ≡ u → IsWhole (length row) row → ArePaired None (fitted w row)
+unfolding fitted
+fitted-pairs w row true u few more whole =
+    rw few (paired-take None w (cut w row) (whole-cut (length row) w row whole).paired (clear-cut w row whole.paired))
+fitted-pairs w row false true few more whole =
+    rw (few, more) (paired-append None (going_on false (length row) row) (replicate (w - length row) (blank plain))
+    (whole-going_on (length row) false (length row) row whole).paired (paired-replicate (w - length row) (blank plain) refl refl))
+fitted-pairs w row false false few more whole = rw (few, more) whole.paired
+
+-- A row in pairs is whole.
+begin-row : (w k : ℕ) (row : List Cell) → length row ≡ w → ArePaired None row → is_right (cell_at (k * w) row).part ≡ false
+begin-row w zero row long are = let none : zero * w ≡ zero = omega arith in rw none (paired-first row are)
+begin-row w (suc k) row long are =
+    ap (λ (x : Cell). is_right x.part) (get_or_past row (suc k * w) (blank plain) (omega (arith, long, suc-mul k w)))
+
+pub whole-row : (w : ℕ) (row : List Cell) → length row ≡ w → ArePaired None row → IsWhole w row
+whole-row w row long are = record { paired = are; rows_begin = λ k. begin-row w k row long are }
+
+pub whole-fitted : (w : ℕ) (row : List Cell) → IsWhole (length row) row → IsWhole w (fitted w row)
+whole-fitted w row whole = whole-row w (fitted w row) (length-fitted w row) (fitted-pairs w row _ _ refl refl whole)
+
+pub all-whole : (w g : ℕ) (rows : List (List Cell)) → AreRows g rows → AreRows w (all_fitted w rows)
+all-whole w g [] are = tt
+all-whole w g (row ∷ rows) are =
+    ((length-fitted w row, whole-fitted w row (subst (λ n. IsWhole n row) (sym are.0.0) are.0.1)), all-whole w g rows are.1)
+
+-- rows, and one more
+pub more-rows : (width : ℕ) (rows : List (List Cell)) (row : List Cell) → AreRows width rows → length row ≡ width → IsWhole width row → AreRows width (rows ++ row ∷ [])
+more-rows width [] row are long whole = ((long, whole), tt)
+more-rows width (first ∷ rows) row are long whole = (are.0, more-rows width rows row are.1 long whole)
+
+pub rows-next : (n w first : ℕ) (cells : List Cell)
+    → rows_of (n + 1) w (drop (first * w) cells) ≡ rows_of n w (drop (first * w) cells) ++ take w (drop ((first + n) * w) cells) ∷ []
+rows-next n w first cells =
+    let one : n + 1 ≡ suc n = omega arith in
+    ap (λ k. rows_of k w (drop (first * w) cells)) one
+    ∙ ap (λ l. rows_of n w (drop (first * w) cells) ++ take w l ∷ [])
+    (drop-drop (n * w) (first * w) cells ∙ ap (λ k. drop k cells) (omega (arith, add-mul first n w)))
+
+pub fitted-next : (n w first width : ℕ) (cells : List Cell) (before : List (List Cell))
+    → (before ++ all_fitted width (rows_of n w (drop (first * w) cells))) ++ fitted width (take w (drop ((first + n) * w) cells)) ∷ []
+    ≡ before ++ all_fitted width (rows_of (n + 1) w (drop (first * w) cells))
+fitted-next n w first width cells before =
+    let rest : List Cell = drop (first * w) cells in
+    let row : List Cell = take w (drop ((first + n) * w) cells) in
+    append_assoc before (all_fitted width (rows_of n w rest)) (fitted width row ∷ [])
+    ∙ ap (λ l. before ++ l) (sym (ap (map (fitted width)) (rows-next n w first cells) ∙ map-append (fitted width) (rows_of n w rest) (row ∷ [])))
+
+pub blank-next : (n width : ℕ) (before : List (List Cell))
+    → (before ++ replicate n (replicate width (blank plain))) ++ replicate width (blank plain) ∷ []
+    ≡ before ++ replicate (n + 1) (replicate width (blank plain))
+blank-next n width before =
+    append_assoc before (replicate n (replicate width (blank plain))) (replicate width (blank plain) ∷ [])
+    ∙ ap (λ l. before ++ l) (replicate-append-replicate n 1 (replicate width (blank plain)))
+
+pub length-rows_of : (n width : ℕ) (cells : List Cell) → length (rows_of n width cells) ≡ n
+length-rows_of zero width cells = refl
+length-rows_of (suc n) width cells =
+    length-append (rows_of n width cells) (take width (drop (n * width) cells) ∷ []) ∙ omega (arith, length-rows_of n width cells)
+
+pub length-all : (n w width : ℕ) (cells : List Cell) → length (all_fitted width (rows_of n w cells)) ≡ n
+length-all n w width cells = length-map (rows_of n w cells) (fitted width) ∙ length-rows_of n w cells
+
+-- Beside all of its cells a row is blank.
+pub blank-past : (first past : ℕ) (cells : List Cell) → first ≤ 0 → length cells ≤ past → IsBlankBeside first past cells
+blank-past first past cells none all k beside = elim beside [
+  | inl before ↦ absurd (omega (arith, before, none))
+  | inr behind ↦ get_or_past cells k (blank plain) (omega (arith, all, behind))
+]
+
+-- Blank rows stay blank.
+set-replicate : (n at : ℕ) (x : Cell) → set (replicate n x) at x ≡ replicate n x
+set-replicate zero at x = refl
+set-replicate (suc n) zero x = refl
+set-replicate (suc n) (suc at) x = ap (λ l. x ∷ l) (set-replicate n at x)
+
+cell-replicate : (n at : ℕ) → cell_at at (replicate n (blank plain)) ≡ blank plain
+cell-replicate zero at = refl
+cell-replicate (suc n) zero = refl
+cell-replicate (suc n) (suc at) = cell-replicate n at
+
+ended-blank : (n end : ℕ) → going_on false end (replicate n (blank plain)) ≡ replicate n (blank plain)
+unfolding going_on
+ended-blank n end =
+    ap (λ (x : Cell). set (replicate n (blank plain)) (end - 1) (record x { goes_on = false })) (cell-replicate n (end - 1))
+    ∙ set-replicate n (end - 1) (blank plain)
+
+fitted-blanks : (w g : ℕ) (t u : Bool) → nat_lt w g ≡ t → nat_lt g w ≡ u → (row : List Cell) → row ≡ replicate g (blank plain) → length row ≡ g
+    → fitted w row ≡ replicate w (blank plain)
+unfolding fitted
+fitted-blanks w g true u few more row is long =
+    rw (long, few)
+    (sym (narrow-none w row (ap (λ (l : List Cell). is_right (cell_at w l).part) is ∙ right-replicate g w (blank plain) refl))
+    ∙ (ap (take w) is ∙ take-replicate w g (blank plain) (omega (arith, ltb-true w g few))))
+fitted-blanks w g false true few more row is long =
+    rw (long, few, more)
+    (ap (λ (l : List Cell). going_on false g l ++ replicate (w - g) (blank plain)) is
+    ∙ (ap (λ (l : List Cell). l ++ replicate (w - g) (blank plain)) (ended-blank g g)
+    ∙ (replicate-append-replicate g (w - g) (blank plain) ∙ ap (λ n. replicate n (blank plain)) (omega (arith, ltb-true g w more)))))
+fitted-blanks w g false false few more row is long =
+    rw (long, few, more) (is ∙ ap (λ n. replicate n (blank plain)) (omega (arith, ltb-false w g few, ltb-false g w more)))
+
+pub fitted-blank : (w g : ℕ) → fitted w (replicate g (blank plain)) ≡ replicate w (blank plain)
+fitted-blank w g = fitted-blanks w g _ _ refl refl (replicate g (blank plain)) refl (length-replicate g (blank plain))
+
+all-blank : (n w g k m : ℕ) → k + n * g ≤ m → all_fitted w (rows_of n g (drop k (replicate m (blank plain)))) ≡ replicate n (replicate w (blank plain))
+all-blank zero w g k m fits = refl
+all-blank (suc n) w g k m fits =
+    let rest : List Cell = drop k (replicate m (blank plain)) in
+    let row : take g (drop (n * g) rest) ≡ replicate g (blank plain) =
+    ap (λ (l : List Cell). take g (drop (n * g) l)) (drop-replicate k m (blank plain))
+    ∙ (ap (take g) (drop-replicate (n * g) (m - k) (blank plain))
+    ∙ take-replicate g (m - k - n * g) (blank plain) (omega (arith, fits, suc-mul n g))) in
+    let one : n + 1 ≡ suc n = omega arith in
+    map-append (fitted w) (rows_of n g rest) (take g (drop (n * g) rest) ∷ [])
+    ∙ (ap (λ (l : List Cell). all_fitted w (rows_of n g rest) ++ fitted w l ∷ []) row
+    ∙ (ap (λ (l : List Cell). all_fitted w (rows_of n g rest) ++ l ∷ []) (fitted-blank w g)
+    ∙ (ap (λ l. l ++ replicate w (blank plain) ∷ []) (all-blank n w g k m (omega (arith, fits, suc-mul n g)))
+    ∙ (replicate-append-replicate n 1 (replicate w (blank plain)) ∙ ap (λ k. replicate k (replicate w (blank plain))) one))))
+
+-- so a blank grid is a blank one in another size
+pub framed-blank : (width height first : ℕ) (grid : Grid) → grid.cells ≡ replicate (grid.height * grid.width) (blank plain) → first ≤ grid.height
+    → framed width height (all_fitted width (rows_from first height grid)) ≡ replicate (height * width) (blank plain)
+framed-blank width height first grid is inside =
+    let n : ℕ = min height (grid.height - first) in
+    let row : List Cell = replicate width (blank plain) in
+    let fits : first * grid.width + n * grid.width ≤ grid.height * grid.width = omega (
+      arith,
+      add-mul first n grid.width,
+      mul-le-mul_right {m = first + n} {n = grid.height} grid.width (omega (arith, inside)),
+    ) in
+    let blanks : all_fitted width (rows_from first height grid) ≡ replicate n row =
+    ap (λ (l : List Cell). all_fitted width (rows_of n grid.width (drop (first * grid.width) l))) is
+    ∙ all-blank n width grid.width (first * grid.width) (grid.height * grid.width) fits in
+    let many : length (replicate n row) ≡ n = length-replicate n row in
+    ap (λ l. flat (l ++ replicate (height - length l) row)) blanks
+    ∙ (ap (λ k. flat (replicate n row ++ replicate (height - k) row)) many
+    ∙ (ap (λ l. flat l) (replicate-append-replicate n (height - n) row ∙ ap (λ k. replicate k row) (omega arith))
+    ∙ flat-blank width height (blank plain)))

@@ -1,0 +1,33 @@
+//! The grid that does not show, in another size.
+ghost use Rattle.std.specs.Prelude.{◌≡◌, ◌<◌, ◌≤◌, IfOk};
+ghost use Rattle.ansi_screen.specs.Resize.{all_fitted, framed, rows_from};
+
+use super::Covered;
+use std::alloc::{AllocError, Global};
+
+impl Covered {
+    /// So many rows of so many columns: its own from one on, as many as there is room for, and blank ones. `Err` means
+    /// that memory is wanting.
+    pub(crate) fn resized(
+        &self,
+        alloc: Global,
+        width: usize,
+        height: u16,
+        first: usize,
+    ) -> Result<Covered, AllocError>
+        requires some { 0 < width }
+        requires first { first ≤ self.now.height }
+        ensures { IfOk result (λ covered. covered ≡ record {
+          width = width;
+          height = height;
+          cells = framed width height (all_fitted width (rows_from first height self.now));
+        }) }
+    {
+        if self.memory.is_some() {
+            Covered::new(alloc, width, height)
+        } else {
+            let grid = self.grid.resized(alloc, width, height, Vec::new(alloc), first)?;
+            Ok(Covered { memory: None, grid })
+        }
+    }
+}

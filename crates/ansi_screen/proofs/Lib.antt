@@ -38,6 +38,7 @@ pub mod FollowingLemmas
 pub mod ColorLemmas
 pub mod ContentLemmas
 pub mod ResizedLemmas
+pub mod ResizedRows
 pub mod HistoryLemmas
 pub mod HandedLemmas
 mod EqualityLemmas

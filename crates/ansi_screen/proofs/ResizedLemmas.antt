@@ -1,5 +1,5 @@
 -- A screen in another size is one that a stream can lead to.
-use Rattle.std.proofs.Common.{◌≡◌, ℕ, zero, suc, ◌+◌, ◌-◌, ◌*◌, ◌<◌, ◌≤◌, Bool, true, false, ◌&&◌, List, [], ◌∷◌, ◌++◌, length, take, drop, refl, ap, sym, ◌∙◌, subst, inl, inr, arith}
+use Rattle.std.proofs.Common.{◌≡◌, ℕ, zero, suc, ◌+◌, ◌-◌, ◌*◌, ◌<◌, ◌≤◌, Bool, true, false, ◌&&◌, List, [], ◌∷◌, ◌++◌, length, take, drop, refl, ap, sym, ◌∙◌, subst, inl, inr, eq-eqb, arith}
 use Rattle.std.specs.Prelude.{min, map, replicate, nat_lt, ◌==◌, None, if◌then◌else◌}
 use Rattle.std.specs.List.{AllByRecursion}
 use Rattle.std.proofs.lemmas.List.{length-append, length-drop, length-map, length-replicate, length-take, length-take-le, drop-drop, get_or-drop}
@@ -220,3 +220,51 @@ resized-contents w h back d screen has are = record {
   margins = inr (refl, refl);
   main = λ is. hides-nothing w h back d screen (has.main is);
 }
+
+-- how many rows come back
+few-return_by : (t : Bool) (a b : ℕ) → ((if t then 0 else min a b) ≤ a) × ((if t then 0 else min a b) ≤ b)
+few-return_by true a b = (omega arith, omega arith)
+few-return_by false a b = (omega arith, omega arith)
+
+pub few-return : (h : ℕ) (s : State) → (returning h s ≤ h - s.display.height) × (returning h s ≤ length (kept_rows s.history))
+few-return h s = few-return_by s.display.is_alternate (h - s.display.height) (length (kept_rows s.history))
+
+pub length-last : (n : ℕ) (rows : List (List Cell)) → n ≤ length rows → length (keep_last n rows) ≡ n
+length-last n rows few = length-drop (length rows - n) rows ∙ omega (arith, few)
+
+cells-drop_rows : (n : ℕ) (rows : List (List Cell)) → AllCells rows → AllCells (drop n rows)
+cells-drop_rows zero rows are = are
+cells-drop_rows (suc n) [] are = are
+cells-drop_rows (suc n) (row ∷ rows) are = cells-drop_rows n rows are.1
+
+-- a screen in another size, or in its own
+if-other : (P : Display → Type 0) (t : Bool) (s other : State) → P s.display → P other.display → P (if t then s else other).display
+if-other P true s other same is = same
+if-other P false s other same is = is
+
+pub screen-in_size : (s : State) (w h : ℕ) → 2 ≤ w → w ≤ most_columns → 1 ≤ h → h ≤ most_rows → AreRows s.display.width (kept_rows s.history) → IsScreen s.display
+    → IsScreen (in_size_if_other w h s).display
+unfolding in_size_if_other
+screen-in_size s w h wide limit some few are screen =
+    let kept : List (List Cell) = kept_rows s.history in
+    let n : ℕ = returning h s in
+    let less = few-return h s in
+    if-other IsScreen (w == s.display.width && h == s.display.height) s (in_size w h s) screen
+    (resized-screen w h (keep_last n kept) s.display screen (rows-drop s.display.width (length kept - n) kept are)
+    (omega (arith, length-last n kept less.1, less.0)) wide some limit few)
+
+pub contents-in_size : (s : State) (w h : ℕ) → AllCells (kept_rows s.history) → IsScreen s.display → HasContents s.display
+    → HasContents (in_size_if_other w h s).display
+unfolding in_size_if_other
+contents-in_size s w h are screen has =
+    let kept : List (List Cell) = kept_rows s.history in
+    let n : ℕ = returning h s in
+    if-other HasContents (w == s.display.width && h == s.display.height) s (in_size w h s) has
+    (resized-contents w h (keep_last n kept) s.display screen has (cells-drop_rows (length kept - n) kept are))
+
+pub same-size : (s : State) → in_size_if_other s.display.width s.display.height s ≡ s
+unfolding in_size_if_other
+same-size s =
+    let wide : (s.display.width == s.display.width) ≡ true = eq-eqb s.display.width s.display.width refl in
+    let high : (s.display.height == s.display.height) ≡ true = eq-eqb s.display.height s.display.height refl in
+    rw (wide, high) refl

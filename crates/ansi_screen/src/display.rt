@@ -267,6 +267,7 @@ impl Display {
     pub(crate) fn columns(&self) -> usize
         ensures columns { result ≡ self.now.display.width }
         ensures sized { IsSized self.now.display }
+        ensures kept { HasHistory self.now.display.width self.now.history }
     {
         self.cells.width()
     }

@@ -111,6 +111,7 @@ impl History {
     pub fn counts(&self) -> (usize, usize)
         ensures kept { result.0 ≡ length self.now.rows }
         ensures few { length self.now.rows ≤ self.now.most }
+        ensures whole { AreRows self.now.columns self.now.rows }
         ensures left { result.1 ≡ self.now.left }
     {
         (self.count, self.left)

@@ -1,13 +1,18 @@
 //! Laws of screens.
-ghost use Rattle.std.specs.Prelude.{◌≡◌, ◌≤◌, ◌+◌, ◌↔◌, ℕ, None, false, List, [], ◌∷◌, ◌++◌, length, IsTrue};
+ghost use Rattle.std.specs.Prelude.{◌≡◌, ◌≤◌, ◌+◌, ◌-◌, ◌↔◌, ℕ, None, false, List, [], ◌∷◌, ◌++◌, length, replicate, IsTrue};
 ghost use Rattle.std.specs.List.{flat_map, AllByRecursion};
 ghost use Rattle.anstyle_parse.specs.Stream.Call.{Call};
 ghost use Rattle.ansi_screen.specs.Display.{Picture, most_columns, most_rows};
 ghost use Rattle.ansi_screen.specs.Edits.{renewed, rows_up};
-ghost use Rattle.ansi_screen.specs.Reachable.{IsScreen, HasContents};
+ghost use Rattle.ansi_style.specs.Style.{plain};
+ghost use Rattle.ansi_screen.specs.Cells.{blank};
+ghost use Rattle.ansi_screen.specs.Grid.{AreRows};
+ghost use Rattle.ansi_screen.specs.History.{keep_last};
+ghost use Rattle.ansi_screen.specs.Reachable.{IsScreen, AreCells, HasContents};
+ghost use Rattle.ansi_screen.specs.Resize.{leaving, returning, in_size, in_size_if_other};
 ghost use Rattle.ansi_screen.specs.State.{State, new_state, stepped};
 ghost use Rattle.ansi_screen.specs.After.{after, after_all, Shows};
-ghost use Rattle.ansi_screen.specs.Leaving.{ScrollsBy, unkept, rows_left};
+ghost use Rattle.ansi_screen.specs.Leaving.{ScrollsBy, unkept, kept_rows, rows_left};
 ghost use Rattle.ansi_screen.specs.Text.{first_rows};
 ghost use Rattle.ansi_screen.specs.Laws.{with_shown, KeepsRows, before_scroll, once_scrolled, reset, save, restore, IsMoveOrStyle, carriage_return, erase_rest, printing, typing, lines_text, FitsIn, page, text_columns};
 
@@ -124,6 +129,35 @@ pub fn rows_leave()
         (before_scroll call screen.display)).cells }
     ensures rows { (screen : State) (call : Call) → KeepsRows call → rows_left call screen
         ≡ first_rows (length (rows_left call screen)) (before_scroll call screen.display) }
+{}
+
+/// A screen of another size is within its sizes, with halves in pairs and such cells, where it was so before; for the
+/// rows that it keeps see `kept` of [`Screen::columns`] and `whole` of [`History::counts`](crate::History::counts). In
+/// as many columns as before no row is lost but those below the cursor: the rows that leave the main screen and those
+/// that it then shows are the first that it showed, in order. Where it has more rows, those that come back stand before
+/// all that it showed, and blank ones follow.
+pub fn resized()
+    ensures reachable { (screen : State) (columns rows : ℕ)
+        → 2 ≤ columns → columns ≤ most_columns → 1 ≤ rows → rows ≤ most_rows
+        → AreRows screen.display.width (kept_rows screen.history) → IsScreen screen.display
+        → IsScreen (in_size_if_other columns rows screen).display }
+    ensures contents { (screen : State) (columns rows : ℕ) → AllByRecursion AreCells (kept_rows screen.history)
+        → IsScreen screen.display → HasContents screen.display
+        → HasContents (in_size_if_other columns rows screen).display }
+    ensures same { (screen : State)
+        → in_size_if_other screen.display.width screen.display.height screen ≡ screen }
+    ensures fewer { (screen : State) (rows : ℕ) → IsScreen screen.display → screen.display.is_alternate ≡ false
+        → 1 ≤ rows → rows ≤ screen.display.height
+        → first_rows (leaving rows screen.display) screen.display
+        ++ first_rows rows (in_size screen.display.width rows screen).display
+        ≡ first_rows (leaving rows screen.display + rows) screen.display }
+    ensures more { (screen : State) (rows : ℕ) → IsScreen screen.display → screen.display.is_alternate ≡ false
+        → screen.display.height ≤ rows → AreRows screen.display.width (kept_rows screen.history)
+        → first_rows rows (in_size screen.display.width rows screen).display
+        ≡ (keep_last (returning rows screen) (kept_rows screen.history)
+        ++ first_rows screen.display.height screen.display)
+        ++ replicate (rows - returning rows screen - screen.display.height)
+        (replicate screen.display.width (blank plain)) }
 {}
 
 /// `==` of cells, of places and of sizes is equality, and so it is of what they are made of.

@@ -154,6 +154,7 @@ impl Screen {
     pub fn columns(&self) -> usize
         ensures columns { result ≡ self.now.display.width }
         ensures sized { IsSized self.now.display }
+        ensures kept { HasHistory self.now.display.width self.now.history }
     {
         self.display.columns()
     }

@@ -202,7 +202,7 @@ whole-blanks : (width n : ℕ) (space : Cell) → is_right space.part ≡ false
 whole-blanks width n space right left = record { paired = paired-replicate n space right left; rows_begin = λ row. right-replicate n (row * width) space right }
 
 -- a new screen
-pub length-stops : (n : ℕ) → length (stops n) ≡ n
+length-stops : (n : ℕ) → length (stops n) ≡ n
 length-stops zero = refl
 length-stops (suc n) = length_push (stops n) (n % 8 == 0) ∙ (ap (λ k. k + 1) (length-stops n) ∙ add-one n)
 

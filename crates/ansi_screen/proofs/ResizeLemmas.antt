@@ -9,17 +9,17 @@ use borrow.Author.Tests.{ltb-true, ltb-false}
 use Rattle.ansi_style.specs.Style.{plain}
 use Rattle.ansi_screen.specs.declared.cell.Cell.{Cell}
 use Rattle.ansi_screen.specs.Cells.{blank, emptied, is_right, cell_at, cut, going_on, rows_of}
-use Rattle.ansi_screen.specs.Grid.{Grid, flat, in_order, upto, AreRows, IsBlankBeside}
+use Rattle.ansi_screen.specs.Grid.{Grid, flat, in_order, AreRows, IsBlankBeside}
 use Rattle.ansi_screen.specs.Reachable.{ArePaired, IsWhole}
-use Rattle.ansi_screen.specs.Resize.{narrowed, widened, fitted, all_fitted, framed, rows_from}
+use Rattle.ansi_screen.specs.Resize.{upto, narrowed, widened, fitted, all_fitted, framed, rows_from}
 use Rattle.ansi_screen.proofs.CellLemmas.{cut-none}
 use Rattle.ansi_screen.proofs.GridLemmas.{flat-blank}
 use Rattle.ansi_screen.proofs.PairLemmas.{length-cut, whole-cut, clear-cut, paired-append, paired-take, paired-first, paired-replicate, right-replicate}
 use Rattle.ansi_screen.proofs.WholeLemmas.{length-going_on, whole-going_on}
 
 -- numbers in order, and rows in this order
-pub upto-push : (n m : ℕ) (xs : List ℕ) → m ≡ n + 1 → xs ≡ upto n → xs ++ n ∷ [] ≡ upto m
-upto-push n m xs next is =
+pub upto_push : (n m : ℕ) (xs : List ℕ) → m ≡ n + 1 → xs ≡ upto n → xs ++ n ∷ [] ≡ upto m
+upto_push n m xs next is =
     let one : suc n ≡ m = omega (arith, next) in
     ap (λ l. l ++ n ∷ []) is ∙ ap upto one
 

@@ -18,7 +18,7 @@ use Rattle.ansi_screen.specs.State.{State}
 use Rattle.ansi_screen.proofs.ContentLemmas.{cell-blank, cells-append, cells-take, cells-drop, cells-replicate, cells-cut, cells-going_on}
 use Rattle.ansi_screen.proofs.GridLemmas.{flat-length, flat-paired, rows-begin, rows-blank, rows-drop}
 use Rattle.ansi_screen.proofs.BlankLemmas.{whole-new}
-use Rattle.ansi_screen.proofs.KeptLemmas.{length-stops}
+use Rattle.ansi_screen.proofs.KeptCalls.{new-screen}
 use Rattle.ansi_screen.proofs.PairLemmas.{paired-take, paired-drop}
 use Rattle.ansi_screen.proofs.ResizeLemmas.{length-rows_of, length-fitted, whole-row, all-whole, more-rows, framed-blank}
 
@@ -81,10 +81,10 @@ column-in : (t : Bool) (column w : ℕ) → min column (if t then w else w - 1) 
 column-in true column w = omega arith
 column-in false column w = omega arith
 
-length-fitted_stops : (w : ℕ) (tabs : List Bool) → length (fitted_stops w tabs) ≡ w
-length-fitted_stops w tabs =
+length-fitted_stops : (w : ℕ) (tabs : List Bool) → length (stops w) ≡ w → length (fitted_stops w tabs) ≡ w
+length-fitted_stops w tabs long =
     length-append (take w tabs) (drop (length tabs) (stops w))
-    ∙ omega (arith, length-take w tabs, length-drop (length tabs) (stops w), length-stops w)
+    ∙ omega (arith, length-take w tabs, length-drop (length tabs) (stops w), long)
 
 -- a display to which rows come back
 module _ (w h : ℕ) (back : List (List Cell)) (d : Display) (screen : IsScreen d) (are : AreRows d.width back) (few : length back ≤ h - d.height)
@@ -126,7 +126,7 @@ module _ (w h : ℕ) (back : List (List Cell)) (d : Display) (screen : IsScreen 
         (all-whole w d.width (back ++ rows_from (rows_over h d) h (shown_grid d)) shown-are) length-shown;
     hidden_fill = length-framed w h (all_fitted w (rows_from (rows_over h d) h (hidden_grid d)))
         (all-whole w d.width (rows_from (rows_over h d) h (hidden_grid d)) hidden-are) length-hidden;
-    tabs_fill = length-fitted_stops w d.tabs;
+    tabs_fill = length-fitted_stops w d.tabs (new-screen w h wide limit some rows_limit).sized.tabs_fill;
     cursor_row = omega (arith, screen.sized.cursor_row, few, some);
     cursor_column = column-in (d.cursor.column == d.width) d.cursor.column w;
     saved_row = omega (arith, some);
@@ -201,8 +201,7 @@ hides-nothing : (w h : ℕ) (back : List (List Cell)) (d : Display) → IsScreen
 hides-nothing w h back d screen hides =
     let inside : rows_over h d ≤ d.height = omega (arith, screen.sized.cursor_row) in
     let all : d.hidden ≡ replicate (d.height * d.width) (blank plain) = hides.0 ∙ ap (λ n. replicate n (blank plain)) screen.sized.hidden_fill in
-    let new : (resized w h back d).hidden ≡ replicate (h * w) (blank plain) = framed-blank w h (rows_over h d) (hidden_grid d) all inside in
-    (
+    let new : (resized w h back d).hidden ≡ replicate (h * w) (blank plain) = framed-blank w h (rows_over h d) (hidden_grid d) all inside in (
       new ∙ ap (λ n. replicate n (blank plain)) (sym (ap length new ∙ length-replicate (h * w) (blank plain))),
       ap (placed w h d) hides.1 ∙ home-placed w h d,
     )

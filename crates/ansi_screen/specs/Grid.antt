@@ -1,5 +1,5 @@
 -- A grid of cells: rows of one width, which stand in memory in any order.
-use Rattle.std.specs.Prelude.{◌≡◌, ◌⊎◌, ◌<◌, ◌≤◌, ◌*◌, ℕ, zero, suc, ◌==◌, List, [], ◌∷◌, ◌++◌, length, map, replicate, slice_index_or, if◌then◌else◌}
+use Rattle.std.specs.Prelude.{◌≡◌, ◌⊎◌, ◌<◌, ◌≤◌, ◌*◌, ℕ, zero, suc, ◌==◌, List, [], ◌∷◌, length, map, replicate, slice_index_or, if◌then◌else◌}
 use Rattle.std.specs.List.{flat_map, AllByRecursion}
 use Rattle.ansi_style.specs.Style.{plain}
 use Rattle.ansi_screen.specs.declared.cell.Cell.{Cell}
@@ -42,11 +42,6 @@ IsBlankBeside first past cells = (place : ℕ) → IsBeside first past place →
 -- Each row has so many cells, and the halves of its wide characters are in pairs.
 abbrev pub AreRows : ℕ → List (List Cell) → Type 0
 AreRows width rows = AllByRecursion (λ row. (length row ≡ width) × IsWhole width row) rows
-
--- the numbers below one, in order
-abbrev pub upto : ℕ → List ℕ
-upto zero = []
-upto (suc n) = upto n ++ n ∷ []
 
 -- how often a number stands in a list
 abbrev pub times : ℕ → List ℕ → ℕ

@@ -5,7 +5,7 @@
 --
 -- Sources: xterm 379, asked row by row (`ScreenResize` in its screen.c), but that no row of the alternate screen is kept;
 -- tmux and Alacritty for rows that come back.
-use Rattle.std.specs.Prelude.{ℕ, ◌+◌, ◌-◌, ◌*◌, min, Bool, false, ◌&&◌, ◌==◌, nat_lt, Option, List, [], ◌++◌, length, map, take, drop, replicate, if◌then◌else◌}
+use Rattle.std.specs.Prelude.{ℕ, zero, suc, ◌+◌, ◌-◌, ◌*◌, min, Bool, false, ◌&&◌, ◌==◌, nat_lt, Option, List, [], ◌∷◌, ◌++◌, length, map, take, drop, replicate, if◌then◌else◌}
 use Rattle.std.specs.Option.{option_map}
 use Rattle.ansi_style.specs.Style.{plain}
 use Rattle.ansi_screen.specs.declared.cell.Cell.{Cell}
@@ -17,6 +17,11 @@ use Rattle.ansi_screen.specs.History.{Kept, keep_last, with_left}
 use Rattle.ansi_screen.specs.Leaving.{kept_rows}
 use Rattle.ansi_screen.specs.State.{State}
 use Rattle.ansi_screen.specs.Text.{first_rows}
+
+-- the numbers below one, in order
+abbrev pub upto : ℕ → List ℕ
+upto zero = []
+upto (suc n) = upto n ++ n ∷ []
 
 -- a row in fewer columns: a wide character of which a half is cut becomes a blank
 abbrev pub narrowed : (width : ℕ) → List Cell → List Cell

@@ -4,10 +4,11 @@ ghost use Rattle.ansi_style.specs.Style.{plain};
 ghost use Rattle.ansi_screen.specs.Cells.{blank, cell_at, rows_of, marked_before, going_on, within, change, erased, moved_back, moved_on, deleted, inserted};
 ghost use Rattle.ansi_screen.specs.Damage.{HasHistory, KeepsColumns, IsOutside, span_at};
 ghost use Rattle.ansi_screen.specs.Following.{copied};
-ghost use Rattle.ansi_screen.specs.Grid.{blank_grid, with_list, upto, IsBlankFrom, IsOrder};
+ghost use Rattle.ansi_screen.specs.Grid.{blank_grid, with_list, IsBlankFrom, IsOrder};
 ghost use Rattle.ansi_screen.specs.History.{kept_after, kept_after_all, with_left};
 ghost use Rattle.ansi_screen.specs.Print.{glyph};
 ghost use Rattle.ansi_screen.specs.Reachable.{RowsBegin, ArePaired, IsWhole};
+ghost use Rattle.ansi_screen.specs.Resize.{upto};
 ghost use Rattle.ansi_screen.specs.Runs.{with_glyphs};
 
 mod resize;
@@ -53,7 +54,7 @@ impl Model for Grid {
 }
 
 /// So many numbers, from 0.
-#[tactic(auto, using(crate::proofs::MovedLemmas::order_push, crate::proofs::MovedLemmas::order_none, crate::proofs::ResizeLemmas::upto-push))]
+#[tactic(auto, using(crate::proofs::MovedLemmas::order_push, crate::proofs::MovedLemmas::order_none, crate::proofs::ResizeLemmas::upto_push))]
 pub(crate) fn numbers(alloc: Global, count: u16) -> Result<Vec<u16>, AllocError>
     ensures numbers { IfOk result (λ order. order.items ≡ upto count) }
     ensures length { IfOk result (λ order. length order.items ≡ count) }

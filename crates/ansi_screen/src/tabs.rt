@@ -19,7 +19,11 @@ pub(crate) fn reset_stops(tabs: &mut [bool])
 }
 
 /// These stops, as far as there are so many columns, and then one in each eighth. `Err` means that memory is wanting.
-pub(crate) fn fitted_stops(alloc: Global, tabs: &[bool], columns: usize) -> Result<Vec<bool>, AllocError>
+pub(crate) fn fitted_stops(
+    alloc: Global,
+    tabs: &[bool],
+    columns: usize,
+) -> Result<Vec<bool>, AllocError>
     ensures { IfOk result (λ fitted. fitted.items ≡ fitted_stops columns tabs.now) }
 {
     let mut fitted = Vec::from_elem(alloc, false, columns)?;

@@ -1,5 +1,5 @@
 //! The grid that does not show, in another size.
-ghost use Rattle.std.specs.Prelude.{◌≡◌, ◌<◌, ◌≤◌, IfOk};
+ghost use Rattle.std.specs.Prelude.{◌≡◌, ◌*◌, ◌<◌, ◌≤◌, length, IfOk};
 ghost use Rattle.ansi_screen.specs.Resize.{all_fitted, framed, rows_from};
 
 use super::Covered;
@@ -17,16 +17,20 @@ impl Covered {
     ) -> Result<Covered, AllocError>
         requires some { 0 < width }
         requires first { first ≤ self.now.height }
-        ensures { IfOk result (λ covered. covered ≡ record {
+        ensures resized { IfOk result (λ covered. covered ≡ record {
           width = width;
           height = height;
           cells = framed width height (all_fitted width (rows_from first height self.now));
         }) }
+        ensures filled { IfOk result (λ covered. length covered.cells ≡ height * width) }
     {
         if self.memory.is_some() {
             Covered::new(alloc, width, height)
         } else {
-            let grid = self.grid.resized(alloc, width, height, Vec::new(alloc), first)?;
+            let none = Vec::new(alloc);
+            let grid = self.grid.resized(alloc, width, height, none, first)?;
+            // (for the proof: the cells fill the rows)
+            let _ = grid.width();
             Ok(Covered { memory: None, grid })
         }
     }

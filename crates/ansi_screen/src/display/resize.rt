@@ -123,30 +123,29 @@ impl Display {
         requires max_rows { rows ≤ MAX_ROWS }
         ensures { IfOk result (λ display. display ≡ in_size columns rows self.now) }
     {
-        let first = self.rows_over(rows);
-        let returned = self.returning(rows);
+        let (first, returned) = (self.rows_over(rows), self.returning(rows));
         let history = self.history_in(alloc, columns, returned, self.leaving(rows))?;
         let back = self.rows_back(alloc, columns, returned)?;
-        let cells = self.cells.resized(alloc, columns, rows as u16, back, first)?;
-        let hidden = self.hidden.resized(alloc, columns, rows as u16, first)?;
+        let (grid, covered, height) = (&self.cells, &self.hidden, rows as u16);
+        let cells = grid.resized(alloc, columns, height, back, first)?;
+        let hidden = covered.resized(alloc, columns, height, first)?;
+        // (for the proof: the cells fill the rows)
+        let _ = cells.width();
         let tabs = fitted_stops(alloc, self.tabs.as_slice(), columns)?;
         let mut damage = Damage::all(alloc, rows)?;
-        let places = (
-            self.placed(self.saved, columns, rows),
-            self.placed(self.hidden_saved, columns, rows),
-        );
-        let (margins, is_alternate) = ((0, rows), self.is_alternate);
-        let shown = damage.forget(&cells, &hidden, &tabs, places, margins, is_alternate);
+        let saved = self.placed(self.saved, columns, rows);
+        let hidden_saved = self.placed(self.hidden_saved, columns, rows);
+        let mut cursor = self.placed(self.cursor, columns, rows);
+        cursor.row = self.cursor.row + returned - first;
+        cursor.is_relative = false;
+        let (places, margins) = ((saved, hidden_saved), (0, rows));
+        let shown = damage.forget(&cells, &hidden, &tabs, places, margins, self.is_alternate);
         // (what it shows in this size was shown nowhere)
         damage.note_all();
         Ok(Display {
             cells,
-            cursor: Place {
-                row: self.cursor.row + returned - first,
-                is_relative: false,
-                ..self.placed(self.cursor, columns, rows)
-            },
-            saved: places.0,
+            cursor,
+            saved,
             top: 0,
             bottom: rows,
             tabs,
@@ -155,9 +154,9 @@ impl Display {
             is_visible: self.is_visible,
             links: self.links,
             link: self.link,
-            is_alternate,
+            is_alternate: self.is_alternate,
             hidden,
-            hidden_saved: places.1,
+            hidden_saved,
             damage,
             shown,
             history,
@@ -166,7 +165,12 @@ impl Display {
     }
 
     /// Takes another size. `Err` means that memory is wanting; then it is as it was.
-    pub(crate) fn resize(&mut self, alloc: Global, columns: usize, rows: usize) -> Result<(), AllocError>
+    pub(crate) fn resize(
+        &mut self,
+        alloc: Global,
+        columns: usize,
+        rows: usize,
+    ) -> Result<(), AllocError>
         requires min_columns { MIN_COLUMNS ≤ columns }
         requires max_columns { columns ≤ MAX_COLUMNS }
         requires min_rows { MIN_ROWS ≤ rows }

@@ -2,8 +2,8 @@
 ghost use Rattle.std.specs.Prelude.{◌≡◌, ◌+◌, ◌-◌, ◌*◌, ◌<◌, ◌≤◌, ◌++◌, length, min, drop, replicate, IfOk};
 ghost use Rattle.ansi_style.specs.Style.{plain};
 ghost use Rattle.ansi_screen.specs.Cells.{blank, rows_of};
-ghost use Rattle.ansi_screen.specs.Grid.{AreRows, IsOrder, upto, flat};
-ghost use Rattle.ansi_screen.specs.Resize.{all_fitted, framed, rows_from};
+ghost use Rattle.ansi_screen.specs.Grid.{AreRows, IsOrder, flat};
+ghost use Rattle.ansi_screen.specs.Resize.{upto, all_fitted, framed, rows_from};
 
 use super::{Grid, numbers};
 use crate::row::Row;

@@ -25,7 +25,12 @@ impl History {
     }
 
     /// Its last rows, in so many columns. `Err` means that memory is wanting.
-    pub(crate) fn last_rows(&self, alloc: Global, columns: usize, count: usize) -> Result<Vec<Row>, AllocError>
+    pub(crate) fn last_rows(
+        &self,
+        alloc: Global,
+        columns: usize,
+        count: usize,
+    ) -> Result<Vec<Row>, AllocError>
         requires some { 0 < self.now.columns }
         requires few { count ≤ length self.now.rows }
         ensures rows { IfOk result (λ rows. rows.items ≡ all_fitted columns (keep_last count self.now.rows)) }
@@ -41,7 +46,12 @@ impl History {
     }
 
     /// It in so many columns, without its last rows, as if these had not left. `Err` means that memory is wanting.
-    pub(crate) fn without_last(&self, alloc: Global, columns: usize, returned: usize) -> Result<History, AllocError>
+    pub(crate) fn without_last(
+        &self,
+        alloc: Global,
+        columns: usize,
+        returned: usize,
+    ) -> Result<History, AllocError>
         requires some { 0 < self.now.columns }
         requires few { returned ≤ length self.now.rows }
         ensures { IfOk result (λ history. history ≡ kept_in columns returned self.now) }
@@ -57,7 +67,12 @@ impl History {
     }
 
     /// The first rows of a grid leave, and are kept in as many columns as it has. `Err` means that memory is wanting.
-    pub(crate) fn keep_first(&mut self, alloc: Global, grid: &Grid, count: usize) -> Result<(), AllocError>
+    pub(crate) fn keep_first(
+        &mut self,
+        alloc: Global,
+        grid: &Grid,
+        count: usize,
+    ) -> Result<(), AllocError>
         requires within { count ≤ grid.now.height }
         ensures { IfOk result (λ _. self.new
             ≡ kept_after_all (all_fitted self.old.columns (rows_of count grid.now.width grid.now.cells)) self.old) }

@@ -1,6 +1,7 @@
 -- The numbers so far, each once.
 use Rattle.std.proofs.Common.{◌≡◌, length}
-use Rattle.ansi_screen.specs.Grid.{IsOrder, upto}
+use Rattle.ansi_screen.specs.Grid.{IsOrder}
+use Rattle.ansi_screen.specs.Resize.{upto}
 use Rattle.ansi_screen.proofs.grid.numbers.Given as goal
 
 abbrev pub invariant-loop-number : goal.invariant-loop-number

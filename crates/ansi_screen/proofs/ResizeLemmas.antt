@@ -1,8 +1,8 @@
 -- Rows in another number of columns, and grids of them.
-use Rattle.std.proofs.Common.{◌≡◌, ℕ, zero, suc, ◌+◌, ◌-◌, ◌*◌, ◌<◌, ◌≤◌, Bool, true, false, ◌&&◌, List, [], ◌∷◌, ◌++◌, length, get_or, take, drop, set, refl, ap, sym, ◌∙◌, subst, inl, inr, arith}
+use Rattle.std.proofs.Common.{◌≡◌, ℕ, zero, suc, ◌+◌, ◌-◌, ◌*◌, ◌<◌, ◌≤◌, Bool, true, false, ◌&&◌, List, [], ◌∷◌, ◌++◌, length, get_or, take, drop, set, refl, ap, ap₂, sym, ◌∙◌, subst, inl, inr, arith}
 use Rattle.std.specs.Prelude.{min, map, replicate, nat_lt, None, if◌then◌else◌}
 use Rattle.std.proofs.lemmas.Bool.{lt-ltb, and_right}
-use Rattle.std.proofs.lemmas.List.{append_assoc, length-append, length-drop, length-map, length-replicate, length-take-le, map-append, drop-drop, take_at, take_all, take-set-le, set-append_left, get_or_past, get_or-replicate, take-replicate, drop-replicate, replicate-append-replicate}
+use Rattle.std.proofs.lemmas.List.{append_assoc, length-append, length-drop, length-map, length-replicate, length-take-le, map-append, drop-drop, take_at, take_all, take_more, take-set-le, set-append_left, get_or_past, get_or-replicate, take-replicate, drop-replicate, replicate-append-replicate}
 use Rattle.std.proofs.Math.Seq.{take-suc, take-set-lt}
 use Rattle.std.proofs.Math.Nat.{add-mul, mul-le-mul_right, suc-mul}
 use borrow.Author.Tests.{ltb-true, ltb-false}
@@ -10,10 +10,12 @@ use Rattle.ansi_style.specs.Style.{plain}
 use Rattle.ansi_screen.specs.declared.cell.Cell.{Cell}
 use Rattle.ansi_screen.specs.Cells.{blank, emptied, is_right, cell_at, cut, going_on, rows_of}
 use Rattle.ansi_screen.specs.Grid.{Grid, flat, in_order, AreRows, IsBlankBeside}
+use Rattle.ansi_screen.specs.History.{Kept, keep_last, kept_after}
 use Rattle.ansi_screen.specs.Reachable.{ArePaired, IsWhole}
 use Rattle.ansi_screen.specs.Resize.{upto, narrowed, widened, fitted, all_fitted, framed, rows_from}
+use Rattle.ansi_screen.specs.Ring.{turned}
 use Rattle.ansi_screen.proofs.CellLemmas.{cut-none}
-use Rattle.ansi_screen.proofs.GridLemmas.{flat-blank}
+use Rattle.ansi_screen.proofs.GridLemmas.{flat-blank, rows-take, rows-drop}
 use Rattle.ansi_screen.proofs.PairLemmas.{length-cut, whole-cut, clear-cut, paired-append, paired-take, paired-first, paired-replicate, right-replicate}
 use Rattle.ansi_screen.proofs.WholeLemmas.{length-going_on, whole-going_on}
 
@@ -210,3 +212,48 @@ framed-blank width height first grid is inside =
     ∙ (ap (λ k. flat (replicate n row ++ replicate (height - k) row)) many
     ∙ (ap (λ l. flat l) (replicate-append-replicate n (height - n) row ∙ ap (λ k. replicate k row) (omega arith))
     ∙ flat-blank width height (blank plain)))
+
+-- rows, and others
+pub rows-append : (w : ℕ) (rows others : List (List Cell)) → AreRows w rows → AreRows w others → AreRows w (rows ++ others)
+rows-append w [] others are too = too
+rows-append w (row ∷ rows) others are too = (are.0, rows-append w rows others are.1 too)
+
+-- the rows that a ring keeps
+pub kept-few : (next count more : ℕ) (places : List (List Cell)) → next ≤ length places → count ≤ length places
+    → length (keep_last count (turned next places)) ≤ length places + more
+kept-few next count more places within few =
+    omega (
+      arith,
+      length-drop (length (turned next places) - count) (turned next places),
+      length-append (drop next places) (take next places),
+      length-drop next places,
+      length-take-le next places within,
+    )
+
+pub kept-rows : (w next count : ℕ) (places : List (List Cell)) → AreRows w places → AreRows w (keep_last count (turned next places))
+kept-rows w next count places are =
+    rows-drop w (length (turned next places) - count) (turned next places)
+    (rows-append w (drop next places) (take next places) (rows-drop w next places are) (rows-take w next places are))
+
+-- a row more is pushed, of a grid's, or of those that are kept
+pub fitted-push : (n w first width : ℕ) (cells read row : List Cell) (before old new : List (List Cell))
+    → old ≡ before ++ all_fitted width (rows_of n w (drop (first * w) cells)) → read ≡ take w (drop ((first + n) * w) cells)
+    → row ≡ fitted width read → new ≡ old ++ row ∷ [] → new ≡ before ++ all_fitted width (rows_of (n + 1) w (drop (first * w) cells))
+fitted-push n w first width cells read row before old new so_far there fits pushed =
+    pushed
+    ∙ (ap₂ (λ (l : List (List Cell)) (r : List Cell). l ++ r ∷ []) so_far (fits ∙ ap (fitted width) there)
+    ∙ fitted-next n w first width cells before)
+
+pub kept-push : (n width : ℕ) (read row : List Cell) (rows old new : List (List Cell)) → n < length rows
+    → old ≡ all_fitted width (take n rows) → read ≡ get_or rows n [] → row ≡ fitted width read → new ≡ old ++ row ∷ []
+    → new ≡ all_fitted width (take (n + 1) rows)
+kept-push n width read row rows old new inside so_far there fits pushed =
+    pushed
+    ∙ (ap₂ (λ (l : List (List Cell)) (r : List Cell). l ++ r ∷ []) so_far (fits ∙ ap (fitted width) there)
+    ∙ (sym (map-append (fitted width) (take n rows) (get_or rows n [] ∷ [])) ∙ ap (map (fitted width)) (sym (take_more rows n [] inside))))
+
+-- a row more is kept where there is room for it
+pub kept-next : (row : List Cell) (kept : Kept) → length kept.rows + 1 ≤ kept.most → (kept_after row kept).rows ≡ kept.rows ++ row ∷ []
+kept-next row kept room =
+    let all : length (kept.rows ++ row ∷ []) - kept.most ≡ 0 = omega (arith, length-append kept.rows (row ∷ []), room) in
+    ap (λ n. drop n (kept.rows ++ row ∷ [])) all

@@ -20,7 +20,7 @@ use Rattle.ansi_screen.proofs.GridLemmas.{flat-length, flat-paired, rows-begin, 
 use Rattle.ansi_screen.proofs.BlankLemmas.{whole-new}
 use Rattle.ansi_screen.proofs.KeptCalls.{new-screen}
 use Rattle.ansi_screen.proofs.PairLemmas.{paired-take, paired-drop}
-use Rattle.ansi_screen.proofs.ResizeLemmas.{length-rows_of, length-fitted, whole-row, all-whole, more-rows, framed-blank}
+use Rattle.ansi_screen.proofs.ResizeLemmas.{length-rows_of, length-fitted, whole-row, all-whole, more-rows, rows-append, framed-blank}
 
 -- the rows of cells in pairs
 row-of : (w k : ℕ) (cells : List Cell) → IsWhole w cells → (k + 1) * w ≤ length cells
@@ -51,11 +51,6 @@ rows_from-are first height grid whole long inside =
     let few : (first + n) * grid.width ≤ grid.height * grid.width =
     mul-le-mul_right {m = first + n} {n = grid.height} grid.width (omega (arith, inside)) in
     rows-are n grid.width first grid.cells whole (omega (arith, few, long))
-
--- rows, and others
-pub rows-append : (w : ℕ) (rows others : List (List Cell)) → AreRows w rows → AreRows w others → AreRows w (rows ++ others)
-rows-append w [] others are too = too
-rows-append w (row ∷ rows) others are too = (are.0, rows-append w rows others are.1 too)
 
 -- a frame of rows
 module _ (w h : ℕ) (rows : List (List Cell)) (are : AreRows w rows) where
@@ -156,7 +151,7 @@ cells-fitted_by w row false true fewer more are =
     (cells-replicate (w - length row) (blank plain) (cell-blank plain (tt, tt))))
 cells-fitted_by w row false false fewer more are = rw (fewer, more) are
 
-abbrev AllCells : List (List Cell) → Type 0
+abbrev pub AllCells : List (List Cell) → Type 0
 AllCells rows = AllByRecursion (λ row. AreCells row) rows
 
 cells-all : (w : ℕ) (rows : List (List Cell)) → AllCells rows → AllCells (all_fitted w rows)

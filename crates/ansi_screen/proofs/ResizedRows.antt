@@ -17,8 +17,8 @@ use Rattle.ansi_screen.specs.State.{State}
 use Rattle.ansi_screen.specs.Text.{first_rows}
 use Rattle.ansi_screen.proofs.GridLemmas.{rows-blank, rows-drop}
 use Rattle.ansi_screen.proofs.BlankLemmas.{whole-new}
-use Rattle.ansi_screen.proofs.ResizeLemmas.{length-rows_of}
-use Rattle.ansi_screen.proofs.ResizedLemmas.{rows-append, rows_from-are}
+use Rattle.ansi_screen.proofs.ResizeLemmas.{length-rows_of, rows-append}
+use Rattle.ansi_screen.proofs.ResizedLemmas.{rows_from-are}
 
 -- the first rows, and those behind them
 pub rows_of-add : (a b w : ℕ) (cells : List Cell) → rows_of (a + b) w cells ≡ rows_of a w cells ++ rows_of b w (drop (a * w) cells)
@@ -73,9 +73,6 @@ framed-rows w h rows are few =
 
 -- a screen of which no row comes back, and one of which some do
 module _ (rows : ℕ) (s : State) (screen : IsScreen s.display) (main : s.display.is_alternate ≡ false) (some : 1 ≤ rows) where
-  abbrev d : Display
-  d = s.display
-
   abbrev stay : List (List Cell)
   stay = rows_from (rows_over rows s.display) rows (shown_grid s.display)
 

@@ -123,7 +123,7 @@ impl History {
         ensures within { IfSome result (λ row. number < length self.now.rows) }
         ensures cells { IfSome result (λ row. row.0.now ≡ slice_index_or self.now.rows number []) }
         ensures columns { IfSome result (λ row. length row.0.now ≡ self.now.columns) }
-        ensures whole { IfSome result (λ row. IsWhole self.now.columns row.0.now) }
+        ensures whole { IfSome result (λ row. IsWhole (length row.0.now) row.0.now) }
         ensures written { IfSome result (λ row. row.1 ≤ length row.0.now) }
         ensures rest { IfSome result (λ row. IsBlankFrom row.1 row.0.now) }
     {

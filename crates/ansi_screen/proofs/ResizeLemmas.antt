@@ -1,21 +1,28 @@
 -- Rows in another number of columns, and grids of them.
-use Rattle.std.proofs.Common.{◌≡◌, ℕ, zero, suc, ◌+◌, ◌-◌, ◌*◌, ◌<◌, ◌≤◌, Bool, true, false, ◌&&◌, List, [], ◌∷◌, ◌++◌, length, get_or, take, drop, set, refl, ap, ap₂, sym, ◌∙◌, subst, inl, inr, arith}
-use Rattle.std.specs.Prelude.{min, map, replicate, nat_lt, None, if◌then◌else◌}
-use Rattle.std.proofs.lemmas.Bool.{lt-ltb, and_right}
-use Rattle.std.proofs.lemmas.List.{append_assoc, length-append, length-drop, length-map, length-replicate, length-take-le, map-append, drop-drop, take_at, take_all, take_more, take-set-le, set-append_left, get_or_past, get_or-replicate, take-replicate, drop-replicate, replicate-append-replicate}
+use Rattle.std.proofs.Common.{◌≡◌, ℕ, zero, suc, ◌+◌, ◌-◌, ◌*◌, ◌%◌, ◌<◌, ◌≤◌, ◌⊎◌, Bool, true, false, ◌&&◌, List, [], ◌∷◌, ◌++◌, length, get_or, take, drop, set, refl, ap, ap₂, sym, ◌∙◌, subst, inl, inr, arith}
+use Rattle.std.specs.Prelude.{min, max, map, replicate, nat_lt, ◌==◌, Option, None, Some, if◌then◌else◌}
+use Rattle.std.specs.Option.{option_map}
+use Rattle.std.proofs.lemmas.Bool.{lt-ltb, and_right, cases_lt}
+use Rattle.std.proofs.lemmas.List.{append_assoc, length-append, length-drop, length-map, length-replicate, length-take-le, map-append, drop-drop, drop_all, take_at, drop_at, take_all, take_more, take-set-le, set-append_left, get_or_default, get_or_past, get_or-replicate, take-replicate, drop-replicate, replicate-append-replicate}
 use Rattle.std.proofs.Math.Seq.{take-suc, take-set-lt}
 use Rattle.std.proofs.Math.Nat.{add-mul, mul-le-mul_right, suc-mul}
 use borrow.Author.Tests.{ltb-true, ltb-false}
 use Rattle.ansi_style.specs.Style.{plain}
 use Rattle.ansi_screen.specs.declared.cell.Cell.{Cell}
+use Rattle.ansi_screen.specs.declared.row.Written.{Written}
 use Rattle.ansi_screen.specs.Cells.{blank, emptied, is_right, cell_at, cut, going_on, rows_of}
+use Rattle.ansi_screen.specs.Display.{stops}
 use Rattle.ansi_screen.specs.Grid.{Grid, flat, in_order, AreRows, IsBlankBeside}
-use Rattle.ansi_screen.specs.History.{Kept, keep_last, kept_after}
+use Rattle.ansi_screen.specs.History.{Kept, keep_last, kept_after, kept_after_all, with_left}
 use Rattle.ansi_screen.specs.Reachable.{ArePaired, IsWhole}
-use Rattle.ansi_screen.specs.Resize.{upto, narrowed, widened, fitted, all_fitted, framed, rows_from}
+use Rattle.ansi_screen.specs.Resize.{upto, narrowed, widened, fitted, all_fitted, framed, rows_from, kept_in, in_size, in_size_if_other, fitted_stops}
 use Rattle.ansi_screen.specs.Ring.{turned}
-use Rattle.ansi_screen.proofs.CellLemmas.{cut-none}
+use Rattle.ansi_screen.specs.State.{State}
+use Rattle.ansi_screen.proofs.BlankLemmas.{joined, Kept as Row}
+use Rattle.ansi_screen.proofs.CellLemmas.{cut-none, right-at}
 use Rattle.ansi_screen.proofs.GridLemmas.{flat-blank, rows-take, rows-drop}
+use Rattle.ansi_screen.proofs.HistoryLemmas.{kept-columns, kept-more}
+use Rattle.ansi_screen.proofs.LeftLemmas.{left_some}
 use Rattle.ansi_screen.proofs.PairLemmas.{length-cut, whole-cut, clear-cut, paired-append, paired-take, paired-first, paired-replicate, right-replicate}
 use Rattle.ansi_screen.proofs.WholeLemmas.{length-going_on, whole-going_on}
 
@@ -53,6 +60,26 @@ narrow-half w xs some half =
     rw (is, half)
     (sym (take-set-lt w xs (w - 1) left (omega (arith, some)))
     ∙ sym (take-set-le w (set xs (w - 1) left) w (emptied (cell_at w xs)) (omega arith)))
+
+-- the same of a row that was copied, as far as there is room
+pub narrow-cut : (cells others : List Cell) (w : ℕ) (t : Bool) (x d e : Cell) → 0 < w → w < length others → cells ≡ take w others
+    → t ≡ is_right (get_or others w d).part → t ≡ true → x ≡ emptied (get_or others (w - 1) e) → set cells (w - 1) x ≡ narrowed w others
+narrow-cut cells others w t x d e some inside copied test is left =
+    let before : w - 1 < length others = omega (arith, inside) in
+    ap₂ (λ (l : List Cell) (y : Cell). set l (w - 1) y) copied
+    (left ∙ ap (λ (y : Cell). emptied y) (get_or_default others (w - 1) e (blank plain) before))
+    ∙ narrow-half w others some (right-at others w t d inside test is)
+
+pub narrow-other : (cells others : List Cell) (w : ℕ) (t : Bool) (d : Cell) → w < length others → cells ≡ take w others
+    → t ≡ is_right (get_or others w d).part → t ≡ false → cells ≡ narrowed w others
+narrow-other cells others w t d inside copied test is =
+    copied
+    ∙ narrow-none w others (ap (λ (y : Cell). is_right y.part) (get_or_default others w (blank plain) d inside) ∙ (sym test ∙ is))
+
+pub narrow-zero : (cells others : List Cell) (w : ℕ) → w ≤ 0 → cells ≡ take w others → cells ≡ narrowed w others
+narrow-zero cells others w none copied =
+    let zero_wide : w ≡ 0 = omega (arith, none) in
+    copied ∙ (ap (λ n. take n others) zero_wide ∙ sym (ap (λ n. take n (cut w others)) zero_wide))
 
 -- how many cells a row has then
 fitted-long : (w : ℕ) (row : List Cell) (t u : Bool) → nat_lt w (length row) ≡ t → nat_lt (length row) w ≡ u → length (fitted w row) ≡ w
@@ -257,3 +284,101 @@ pub kept-next : (row : List Cell) (kept : Kept) → length kept.rows + 1 ≤ kep
 kept-next row kept room =
     let all : length (kept.rows ++ row ∷ []) - kept.most ≡ 0 = omega (arith, length-append kept.rows (row ∷ []), room) in
     ap (λ n. drop n (kept.rows ++ row ∷ [])) all
+
+-- a row with other cells, as far as there is room for them
+pub kept-fitted : (n e : ℕ) (w v : Written) (xs others new : List Cell) → Row n w xs → e ≡ n → v ≡ joined 0 e w
+    → new ≡ fitted (length xs) others → IsWhole (length others) others → Row n v new
+kept-fitted n e w v xs others new old last joins is whole =
+    let first : v.first ≡ min w.first 0 = ap (λ (x : Written). x.first) joins in
+    let past : v.past ≡ max w.past e = ap (λ (x : Written). x.past) joins in
+    let long : length new ≡ n = ap length is ∙ (length-fitted (length xs) others ∙ old.long) in
+    record {
+      long = long;
+      whole = subst (λ l. IsWhole n l) (sym is) (subst (λ m. IsWhole m (fitted (length xs) others)) old.long (whole-fitted (length xs) others whole));
+      few = omega (arith, past, old.few, last);
+      blank = blank-past v.first v.past new (omega (arith, first)) (omega (arith, long, past, last));
+    }
+
+-- of a list of blanks, by its length
+pub blank-own : (row : List Cell) (w : ℕ) → row ≡ replicate w (blank plain) → row ≡ replicate (length row) (blank plain)
+blank-own row w is = is ∙ ap (λ n. replicate n (blank plain)) (sym (ap length is ∙ length-replicate w (blank plain)))
+
+-- more columns, of a row that was copied before blanks
+pub widen-is : (others cells copied first : List Cell) → cells ≡ replicate (length cells) (blank plain) → copied ≡ others
+    → first ≡ going_on false (length others) (take (length others) (copied ++ drop (length others) cells))
+    → first ++ drop (length others) (copied ++ drop (length others) cells) ≡ widened (length cells) others
+widen-is others cells copied first are same set_is =
+    let n : ℕ = length others in
+    let rest : List Cell = drop n cells in
+    let front : take n (copied ++ rest) ≡ others = ap (λ (l : List Cell). take n (l ++ rest)) same ∙ take_at others rest n refl in
+    let behind : drop n (copied ++ rest) ≡ rest = ap (λ (l : List Cell). drop n (l ++ rest)) same ∙ drop_at others rest n refl in
+    let blanks : rest ≡ replicate (length cells - n) (blank plain) = ap (λ (l : List Cell). drop n l) are ∙ drop-replicate n (length cells) (blank plain) in
+    ap₂ (λ (l r : List Cell). l ++ r) (set_is ∙ ap (λ (l : List Cell). going_on false n l) front) (behind ∙ blanks)
+
+-- how many rows there are, once blank ones follow
+pub all-long : (width count gw rows : ℕ) (cells : List Cell) (back shown all : List (List Cell)) → shown ≡ back ++ all_fitted width (rows_of count gw cells)
+    → all ≡ shown ++ replicate (rows - length shown) (replicate width (blank plain)) → length back + count ≤ rows → length all ≡ rows
+all-long width count gw rows cells back shown all shown_is all_is few =
+    let blanks : List (List Cell) = replicate (rows - length shown) (replicate width (blank plain)) in
+    let some : length shown ≡ length back + count =
+    ap length shown_is ∙ (length-append back (all_fitted width (rows_of count gw cells)) ∙ ap (λ n. length back + n) (length-all count gw width cells)) in
+    let more : length blanks ≡ rows - length shown = length-replicate (rows - length shown) (replicate width (blank plain)) in
+    ap length all_is ∙ (length-append shown blanks ∙ omega (arith, some, more, few))
+
+-- a row more leaves
+pub keep-push : (n gw columns : ℕ) (cells read row : List Cell) (before old new : Kept)
+    → old ≡ kept_after_all (all_fitted before.columns (rows_of n gw cells)) before → columns ≡ old.columns → read ≡ take gw (drop (n * gw) cells)
+    → row ≡ fitted columns read → new ≡ kept_after row old
+    → new ≡ kept_after_all (all_fitted before.columns (rows_of (n + 1) gw cells)) before
+keep-push n gw columns cells read row before old new so_far wide there fits pushed =
+    let w : ℕ = before.columns in
+    let rows : List (List Cell) = all_fitted w (rows_of n gw cells) in
+    let own : List Cell = take gw (drop (n * gw) cells) in
+    let same : columns ≡ w = wide ∙ (ap (λ (k : Kept). k.columns) so_far ∙ kept-columns rows before) in
+    let one : suc n ≡ n + 1 = omega arith in
+    pushed
+    ∙ (ap₂ (λ (r : List Cell) (k : Kept). kept_after r k) (fits ∙ ap₂ (λ (m : ℕ) (l : List Cell). fitted m l) same there) so_far
+    ∙ (sym (kept-more rows (fitted w own) before)
+    ∙ ap (λ l. kept_after_all l before) (sym (map-append (fitted w) (rows_of n gw cells) (own ∷ [])) ∙ ap (λ k. all_fitted w (rows_of k gw cells)) one)))
+
+-- what is kept then
+pub history-some : (w returned : ℕ) (kept other new : Kept) (rows : List (List Cell)) → other ≡ kept_in w returned kept
+    → new ≡ kept_after_all (all_fitted other.columns rows) other
+    → ◌≡◌ {A = Option Kept} (Some new) (with_left (all_fitted w rows) (option_map (kept_in w returned) (Some kept)))
+history-some w returned kept other new rows is keeps =
+    ap (λ (k : Kept). Some k) (keeps ∙ ap (λ (k : Kept). kept_after_all (all_fitted k.columns rows) k) is)
+    ∙ sym (left_some (all_fitted w rows) (kept_in w returned kept))
+
+-- another size, and the same
+pub size_other : (w h : ℕ) (s new : State) (t : Bool) → new ≡ in_size w h s → t ≡ (w == s.display.width && h == s.display.height) → t ≡ false
+    → new ≡ in_size_if_other w h s
+unfolding in_size_if_other
+size_other w h s new t resized test is = rw (sym test ∙ is) resized
+
+pub size_same : (w h : ℕ) (s : State) (t : Bool) → t ≡ (w == s.display.width && h == s.display.height) → t ≡ true → s ≡ in_size_if_other w h s
+unfolding in_size_if_other
+size_same w h s t test is = rw (sym test ∙ is) refl
+
+-- stops, as far as there are columns for them, and others
+length-stops : (n : ℕ) → length (stops n) ≡ n
+length-stops zero = refl
+length-stops (suc n) = length-append (stops n) ((n % 8 == 0) ∷ []) ∙ omega (arith, length-stops n)
+
+stops-by : (others reset : List Bool) (w count : ℕ) → (w < length others) ⊎ (length others ≤ w) → reset ≡ stops w → count ≡ min w (length others)
+    → take count others ++ drop count reset ≡ fitted_stops w others
+stops-by others reset w count (inl low) is least =
+    let here : count ≡ w = omega (arith, least, low) in
+    let none : drop w (stops w) ≡ [] = drop_all w (stops w) (omega (arith, length-stops w)) in
+    let none_too : drop (length others) (stops w) ≡ [] = drop_all (length others) (stops w) (omega (arith, length-stops w, low)) in
+    ap₂ (λ (n : ℕ) (l : List Bool). take n others ++ drop n l) here is
+    ∙ ap (λ (l : List Bool). take w others ++ l) (none ∙ sym none_too)
+stops-by others reset w count (inr few) is least =
+    let here : count ≡ length others = omega (arith, least, few) in
+    ap₂ (λ (n : ℕ) (l : List Bool). take n others ++ drop n l) here is
+    ∙ ap (λ (l : List Bool). l ++ drop (length others) (stops w))
+    (take_all (length others) others (omega arith) ∙ sym (take_all w others (omega (arith, few))))
+
+pub stops-copied : (others old reset copied : List Bool) (count : ℕ) → reset ≡ stops (length old) → count ≡ min (length old) (length others)
+    → copied ≡ take count others → copied ++ drop count reset ≡ fitted_stops (length old) others
+stops-copied others old reset copied count is least same =
+    ap (λ (l : List Bool). l ++ drop count reset) same ∙ stops-by others reset (length old) count (cases_lt (length old) (length others)) is least

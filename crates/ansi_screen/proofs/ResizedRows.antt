@@ -93,11 +93,12 @@ module _ (rows : ℕ) (s : State) (screen : IsScreen s.display) (main : s.displa
       let kept : List (List Cell) = kept_rows s.history in
       let back : keep_last (returning rows s) kept ≡ [] = ap (λ n. keep_last n kept) none ∙ drop_all (length kept - 0) kept (omega arith) in
       let long : length stay ≡ rows = stay-long ∙ omega (arith, screen.sized.cursor_row, fewer, some) in
+      let all_there : rows - rows ≡ 0 = omega arith in
       let shown : first_rows rows (in_size w rows s).display ≡ stay =
       ap (λ l. rows_of rows w (framed w rows (all_fitted w (l ++ stay)))) back
       ∙ (framed-rows w rows stay stay-are (omega (arith, long))
       ∙ (ap (λ n. stay ++ replicate (rows - n) (replicate w (blank plain))) long
-      ∙ (ap (λ n. stay ++ replicate n (replicate w (blank plain))) (omega arith) ∙ append-nil stay))) in
+      ∙ (ap (λ n. stay ++ replicate n (replicate w (blank plain))) all_there ∙ append-nil stay))) in
       let same : stay ≡ rows_of rows w (drop (over * w) s.display.cells) =
       ap (λ n. rows_of n w (drop (over * w) s.display.cells)) (sym stay-long ∙ long) in
       ap₂ (λ n l. first_rows n s.display ++ l) leaves (shown ∙ same)

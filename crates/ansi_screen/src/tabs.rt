@@ -18,18 +18,27 @@ pub(crate) fn reset_stops(tabs: &mut [bool])
     }
 }
 
-/// These stops, as far as there are so many columns, and then one in each eighth. `Err` means that memory is wanting.
+/// The stops of others, as far as there are so many columns, and then one in each eighth.
+fn put_stops(tabs: &mut [bool], others: &[bool])
+    ensures stops { tabs.new ≡ fitted_stops (length tabs.old) others.now }
+    ensures length { length tabs.new ≡ length tabs.old }
+{
+    let count = tabs.len().min(others.len());
+    reset_stops(tabs);
+    tabs[..count].copy_from_slice(&others[..count]);
+}
+
+/// These stops in so many columns. `Err` means that memory is wanting.
 pub(crate) fn fitted_stops(
     alloc: Global,
     tabs: &[bool],
     columns: usize,
 ) -> Result<Vec<bool>, AllocError>
-    ensures { IfOk result (λ fitted. fitted.items ≡ fitted_stops columns tabs.now) }
+    ensures stops { IfOk result (λ fitted. fitted.items ≡ fitted_stops columns tabs.now) }
+    ensures length { IfOk result (λ fitted. length fitted.items ≡ columns) }
 {
     let mut fitted = Vec::from_elem(alloc, false, columns)?;
-    reset_stops(fitted.as_mut_slice());
-    let count = columns.min(tabs.len());
-    fitted.as_mut_slice()[..count].copy_from_slice(&tabs[..count]);
+    put_stops(fitted.as_mut_slice(), tabs);
     Ok(fitted)
 }
 

@@ -1,5 +1,5 @@
 //! A display in another size.
-ghost use Rattle.std.specs.Prelude.{◌≡◌, ◌<◌, ◌≤◌, ◌-◌, length, min, IfOk, IfErr};
+ghost use Rattle.std.specs.Prelude.{◌≡◌, ◌==◌, ◌&&◌, ◌<◌, ◌≤◌, ◌-◌, length, min, IfOk, IfErr};
 ghost use Rattle.std.specs.Option.{option_map};
 ghost use Rattle.ansi_screen.specs.Damage.{HasHistory};
 ghost use Rattle.ansi_screen.specs.Grid.{AreRows};
@@ -164,7 +164,15 @@ impl Display {
         })
     }
 
+    /// Whether it has so many columns and rows.
+    fn has_size(&self, columns: usize, rows: usize) -> bool
+        ensures { result ≡ (columns == self.now.display.width && rows == self.now.display.height) }
+    {
+        columns == self.cells.width() && rows == self.cells.height()
+    }
+
     /// Takes another size. `Err` means that memory is wanting; then it is as it was.
+    #[tactic(auto, using(crate::proofs::ResizeLemmas::size_other, crate::proofs::ResizeLemmas::size_same))]
     pub(crate) fn resize(
         &mut self,
         alloc: Global,
@@ -178,7 +186,7 @@ impl Display {
         ensures resized { IfOk result (λ _. self.new ≡ in_size_if_other columns rows self.old) }
         ensures stays { IfErr result (λ _. self.new ≡ self.old) }
     {
-        if columns != self.columns() || rows != self.rows() {
+        if !self.has_size(columns, rows) {
             *self = self.resized(alloc, columns, rows)?;
         }
         Ok(())

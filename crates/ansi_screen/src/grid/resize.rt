@@ -25,8 +25,9 @@ fn with_rows_of(
     ensures are { IfOk result (λ all. AreRows width all.items) }
 {
     let mut rows = rows;
-    // (for the proof: a row has cells)
+    // (for the proof: a row has cells, and a number holds how many rows there are)
     let _ = grid.width();
+    let _ = grid.height();
     for number in 0..count {
         rows.push(Row::fitted(alloc, width, grid.row(first + number))?)?;
     }

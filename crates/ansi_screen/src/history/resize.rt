@@ -24,6 +24,13 @@ impl History {
         cells
     }
 
+    /// So many rows count as left in all.
+    fn set_left(&mut self, left: usize)
+        ensures { self.new ≡ record self.old { left = left } }
+    {
+        self.left = left;
+    }
+
     /// Its last rows, in so many columns. `Err` means that memory is wanting.
     pub(crate) fn last_rows(
         &self,
@@ -62,7 +69,7 @@ impl History {
             let mut row = Row::fitted(alloc, columns, self.kept_row(number))?;
             history.keep(&mut row);
         }
-        history.left = left.saturating_sub(returned);
+        history.set_left(left.saturating_sub(returned));
         Ok(history)
     }
 

@@ -328,7 +328,8 @@ class Display:
         self.width, self.height, self.top, self.bottom = width, height, 0, height
 
     def framed(self, cells, back, first, width, height):
-        rows = [cells[row * self.width : (row + 1) * self.width] for row in range(first, min(self.height, first + height))]
+        past = min(self.height, first + height)
+        rows = [cells[row * self.width : (row + 1) * self.width] for row in range(first, past)]
         fitted = sum(back + [self.fitted(row, width) for row in rows], [])
         return fitted + self.spaces(width * height - len(fitted), styles.PLAIN)
 

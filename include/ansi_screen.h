@@ -2,7 +2,8 @@
  * crates/ansi_screen lists. A character that is broken is U+FFFD, and a byte that belongs to none leaves nothing.
  *
  * A stream comes in pieces of any size, cut anywhere: the screen after it is the same. No input is refused. Memory is
- * taken by ansi_screen_open, ansi_screen_open_with and ansi_screen_copy (malloc), and given back by ansi_screen_close (free);
+ * taken by ansi_screen_open, ansi_screen_open_with, ansi_screen_copy and ansi_screen_resize (malloc), and given back by
+ * ansi_screen_close (free);
  * by ansi_screen_draw, ansi_screen_update, ansi_screen_html and ansi_screen_lines_html while they work; and by no other call.
  * The library has no data of its own: threads may call it at the same time, each with a screen of its own.
  *
@@ -20,7 +21,7 @@
  * is to memory of its own that lives as long as the call; it is not null, also where the size beside it is 0; and no two
  * of the pieces of memory overlap, so a call is not given one screen twice. Nothing is kept of a pointer after the call.
  *
- * Not there: changing a screen's size. ansi_events.h tells of the same bytes what asks for that.
+ * ansi_events.h tells of the same bytes what asks for another size.
  */
 #ifndef ANSI_SCREEN_H
 #define ANSI_SCREEN_H
@@ -285,6 +286,15 @@ void ansi_screen_color_rgb(uint8_t number, uint8_t rgb[3]);
 
 /* Makes the screen a blank one of its size, at the beginning of a stream. All that can be asked for counts as set. */
 bool ansi_screen_reset(ansi_screen *screen);
+
+/* The screen takes another size, as xterm does. Where there are fewer rows, those below the cursor are cut first, and then rows
+ * leave at the top of the main screen, among those that it keeps; of the hidden one as many are cut. Where there are more, the
+ * last of the kept rows come back to the main screen while it shows, and blank ones follow. Columns are cut or blank ones added,
+ * of the rows that it keeps too; a wide character that loses a half becomes a blank, and a row whose end moves no longer goes on.
+ * Margins and origin mode are reset, saved places come within the screen, tab stops stay, and new columns have one in each
+ * eighth. All counts as changed. The same size changes nothing. Answers false too where that is no size, or where there is no
+ * memory. */
+bool ansi_screen_resize(ansi_screen *screen, size_t columns, size_t rows);
 
 /* Takes the next bytes of the stream, all of them. */
 bool ansi_screen_feed(ansi_screen *screen, const unsigned char *piece, size_t count);

@@ -20,10 +20,10 @@
 //!
 //! [`shown`] and [`ShownLog`] write what a screen showed of a whole log.
 //!
-//! It can't be resized: [`events`](crate::events) of the same bytes tell what asks for that.
+//! [`events`](crate::events) of the same bytes tell what asks for another size.
 //!
 //! Its library takes memory by `malloc`: in [`Screen::new`], [`Screen::with_history`], [`Screen::with_scrolled_history`] and
-//! [`Screen::try_clone`], and in [`Screen::draw`], [`Screen::update`], [`Screen::to_html`], [`Screen::lines_html`], [`Screen::key`],
+//! [`Screen::try_clone`] and [`Screen::resize`], and in [`Screen::draw`], [`Screen::update`], [`Screen::to_html`], [`Screen::lines_html`], [`Screen::key`],
 //! [`Screen::mouse`], [`Screen::paste`] and [`Screen::focus`] while they work.
 
 mod answers;
@@ -116,6 +116,8 @@ unsafe extern "C" {
     fn ansi_screen_copy(copy: *mut Handle, screen: *mut Handle) -> bool;
 
     fn ansi_screen_close(screen: *mut Handle);
+
+    fn ansi_screen_resize(screen: *mut Handle, columns: usize, rows: usize) -> bool;
 
     fn ansi_screen_reset(screen: *mut Handle) -> bool;
 
@@ -533,6 +535,22 @@ impl Screen {
             )
         };
         taken
+    }
+
+    /// Takes another size, as xterm does. Where there are fewer rows, those below the cursor are cut first, and then rows leave at
+    /// the top of the main screen, among those that it keeps; of the hidden one as many are cut. Where there are more, the last of
+    /// the kept rows come back to the main screen while it shows, and blank ones follow. Columns are cut or blank ones added, of the
+    /// rows that it keeps too. Margins and origin mode are reset, and tab stops stay. All counts as changed. The same size changes
+    /// nothing.
+    ///
+    /// # Errors
+    /// There is no screen of that size, or no memory: then it is as it was.
+    pub fn resize(&mut self, columns: usize, rows: usize) -> Result<(), CannotOpen> {
+        if !unsafe { ansi_screen_resize(self.handle(), columns, rows) } {
+            return Err(CannotOpen);
+        }
+        (self.columns, self.rows) = (columns, rows);
+        Ok(())
     }
 
     /// Makes it a blank screen of its size, at the beginning of a stream.

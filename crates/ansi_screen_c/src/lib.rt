@@ -20,7 +20,7 @@ mod text;
 ghost use Rattle.std.specs.Prelude.{◌≡◌, ◌<◌, ◌≤◌, ◌⊎◌, None, Some, IfSome, length, replicate};
 ghost use Rattle.std.specs.Bool.{OnTrue, OnFalse};
 ghost use Rattle.ansi_style.specs.Bytes.{style_of};
-ghost use Rattle.screen_pieces.specs.Terminal.{IsNew, Feeds, Begins, HasCell, HasRow, display_of, asked_of};
+ghost use Rattle.screen_pieces.specs.Terminal.{IsNew, Feeds, Begins, Resizes, HasCell, HasRow, display_of, asked_of};
 ghost use Rattle.screen_pieces.specs.Modes.{HasModes};
 ghost use Rattle.screen_pieces.specs.Text.{LacksRow, LacksCell};
 ghost use Rattle.ansi_screen_c.specs.Calls.{Opens, Both, Holds, IsNoneOr};
@@ -95,6 +95,31 @@ pub extern "C" fn ansi_screen_open(
         Some(held) => {
             screen.put(held);
             true
+        }
+    }
+}
+
+/// The screen takes another size. It answers false where none is held, that is no size, or memory is wanting; then it is
+/// as it was.
+#[unsafe(no_mangle)]
+pub extern "C" fn ansi_screen_resize(
+    alloc: Global,
+    screen: &mut Handle,
+    columns: usize,
+    rows: usize,
+) -> bool
+    ensures resized { OnTrue result (Both (Resizes columns rows) screen.old.value screen.new.value) }
+    ensures stays { OnFalse result (screen.new.value ≡ screen.old.value) }
+{
+    if !is_size(columns, rows) {
+        return false;
+    }
+    match screen.take(alloc) {
+        None => false,
+        Some(mut held) => {
+            let is_resized = held.resize(alloc, columns, rows).is_ok();
+            screen.put(held);
+            is_resized
         }
     }
 }

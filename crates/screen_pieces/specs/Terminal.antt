@@ -15,6 +15,7 @@ use Rattle.ansi_screen.specs.State.{shown_cells}
 use Rattle.ansi_screen.specs.History.{Kept, nothing_kept}
 use Rattle.ansi_screen.specs.Leaving.{unkept}
 use Rattle.ansi_screen.specs.Laws.{with_shown}
+use Rattle.ansi_screen.specs.Resize.{in_size_if_other}
 use Rattle.ansi_modes.specs.declared.asked.Asked.{Asked}
 use Rattle.ansi_modes.specs.Asked.{nothing_asked, asked_after_all}
 use Rattle.ansi_modes.specs.Changes.{all_changes}
@@ -121,6 +122,11 @@ pub record IsCopy (terminal copy : Terminal) : Type 0 where
   pub waiting : waiting_of copy ≡ waiting_of terminal
   pub theme : theme_of copy ≡ theme_of terminal
   pub keeps_erased : keeps_erased_of copy ≡ keeps_erased_of terminal
+
+-- Its screen has another size; all else stays.
+pub record Resizes (columns rows : ℕ) (old new : Terminal) : Type 0 where
+  pub parser : new.parser ≡ old.parser
+  pub answering : new.answering ≡ record old.answering { screen = in_size_if_other columns rows old.answering.screen }
 
 -- Nothing is told of what it was asked for any more; all else stays.
 pub record Tells (old new : Terminal) : Type 0 where

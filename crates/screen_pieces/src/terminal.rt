@@ -15,8 +15,8 @@ use std::alloc::{AllocError, Global};
 
 /// A screen that takes its stream in pieces.
 ///
-/// Memory is taken by [`Terminal::new`], [`Terminal::with_history`] and [`Terminal::copy`], and by [`Terminal::draw`],
-/// [`Terminal::update`], [`Terminal::html`], [`Terminal::key`], [`Terminal::mouse`], [`Terminal::paste`] and
+/// Memory is taken by [`Terminal::new`], [`Terminal::with_history`], [`Terminal::copy`] and [`Terminal::resize`], and by
+/// [`Terminal::draw`], [`Terminal::update`], [`Terminal::html`], [`Terminal::key`], [`Terminal::mouse`], [`Terminal::paste`] and
 /// [`Terminal::focus`] while they work.
 #[derive(Drop)]
 pub struct Terminal {
@@ -27,7 +27,7 @@ pub struct Terminal {
 }
 
 impl Terminal {
-    ghost use Rattle.screen_pieces.specs.Terminal.{screen_of, table_of, asked_of, waiting_of, answers_of, StandsAfter, Feeds, Begins, IsNew, IsCopy, Tells, TakesAnswers, HasTheme};
+    ghost use Rattle.screen_pieces.specs.Terminal.{screen_of, table_of, asked_of, waiting_of, answers_of, StandsAfter, Feeds, Begins, IsNew, IsCopy, Resizes, Tells, TakesAnswers, HasTheme};
 
     /// A blank screen of so many columns and rows, at the beginning of a stream. `Err` means that memory is
     /// wanting.
@@ -97,6 +97,19 @@ impl Terminal {
         self.answering.request = Request::Nothing;
         self.answering.waiting.take_all();
         self.parser = Parser::<Utf8Parser>::new();
+    }
+
+    /// Its screen takes another size, as [`Screen::resize`] says: rows that leave are kept, and come back, among those that
+    /// it keeps. All else stays. `Err` means that memory is wanting; then it is as it was.
+    pub fn resize(&mut self, alloc: Global, columns: usize, rows: usize) -> Result<(), AllocError>
+        requires min_columns { MIN_COLUMNS ≤ columns }
+        requires max_columns { columns ≤ MAX_COLUMNS }
+        requires min_rows { MIN_ROWS ≤ rows }
+        requires max_rows { rows ≤ MAX_ROWS }
+        ensures resized { OnOk result (Resizes columns rows self.old self.new) }
+        ensures stays { OnErr result (self.new ≡ self.old) }
+    {
+        self.answering.screen.resize(alloc, columns, rows)
     }
 
     /// Forgets what can have changed: as it is now, it counts as shown. It stands where it stood. This takes time for

@@ -8,6 +8,7 @@ mod html;
 mod leaving;
 mod page;
 mod parts;
+mod resize;
 mod safe_shown;
 mod same;
 mod screen;

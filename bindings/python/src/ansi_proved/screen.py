@@ -138,6 +138,7 @@ def _call(name, *kinds, answer=ctypes.c_bool):
 _WRITES = _AT, _SIZE, _AT  # where the room is, and how long, and where a call writes how many bytes it has written
 _open, _copy, _equal = _call("ansi_screen_open_with", _SIZE, _SIZE, _AT), _call("ansi_screen_copy", _AT), _call("ansi_screen_equal", _AT)
 _close, _reset = _call("ansi_screen_close", answer=None), _call("ansi_screen_reset")
+_resize = _call("ansi_screen_resize", _SIZE, _SIZE)
 _feed = _call("ansi_screen_feed", _AT, _SIZE)
 _cursor, _style, _modes = _call("ansi_screen_cursor", _AT, _AT), _call("ansi_screen_style", _AT), _call("ansi_screen_modes", _AT)
 _cell, _row = _call("ansi_screen_cell", _SIZE, _SIZE, _AT), _call("ansi_screen_row", _SIZE, _AT, _SIZE)
@@ -276,6 +277,7 @@ class _Memory:
     """What calls write to: the cells of a row, bytes of text, and two numbers. Each is used by one call at a time."""
 
     def __init__(self, columns):
+        self.columns = columns
         self.cells, self._numbers = ctypes.create_string_buffer(SIZE * columns), (_SIZE * 2)()
         self.cells_at, self.numbers_at = map(ctypes.addressof, (self.cells, self._numbers))
         self.second_at = self.numbers_at + ctypes.sizeof(_SIZE)
@@ -375,7 +377,7 @@ class Screen:
             screen.text()  # "one\ntwo\n"
 
     It takes what a terminal takes: CR LF between lines. A byte that belongs to no character leaves nothing. A with block closes it,
-    as `close` does, and so does its end. It can't be resized: `events` of the same bytes tell what asks for that.
+    as `close` does, and so does its end. `events` of the same bytes tell what asks for another size.
 
     history: how many of the last rows that leave it are kept. Each takes some 40 bytes a column, from the beginning on.
     keep_erased: whether those are kept too that ED 2, ED 0 at the first cell and RIS take away with all of the screen (as by VTE and
@@ -408,9 +410,17 @@ class Screen:
         self._at = ctypes.addressof(self._handle)
         # (a call that comes inside of another one of the same thread, as of a signal, does not wait for itself)
         self._lock = threading.RLock()
+        self._has_size(columns, rows)
+        self._known = [BLANK * columns] * rows  # the cells of each row, as `changed` knew them last
+
+    def _has_size(self, columns, rows):
         self._columns, self._rows = columns, rows
         self._idle = Idle(lambda: _Memory(columns))
-        self._known = [BLANK * columns] * rows  # the cells of each row, as `changed` knew them last
+
+    def _put_back(self, memory):
+        """Lets another call use this memory, if the screen has not taken another size meanwhile."""
+        if memory.columns == self._columns:
+            self._idle.append(memory)
 
     columns = property(lambda self: self._columns, doc="How many columns it has.")
     rows = property(lambda self: self._rows, doc="How many rows it has.")
@@ -450,6 +460,21 @@ class Screen:
         with self._lock:
             self._held(_reset(self._at))
 
+    def resize(self, columns, rows):
+        """Takes another size, as xterm does. Where there are fewer rows, those below the cursor are cut first, and then rows leave at
+        the top of the main screen, into the history; of the hidden one as many are cut. Where there are more, the last rows of the
+        history come back to the main screen while it shows, and blank ones follow. Columns are cut or blank ones added, in the history
+        too. Margins and origin mode are reset, and tab stops stay. All counts as changed. The same size changes nothing.
+        """
+        check_size(columns, rows)
+        with self._lock:
+            self._held(self._handle.held)
+            if not _resize(self._at, columns, rows):
+                raise MemoryError("there is no memory for a screen of %dx%d" % (columns, rows))
+            if (columns, rows) != (self._columns, self._rows):
+                self._has_size(columns, rows)
+                self._known = [b""] * rows
+
     def copy(self):
         """A screen of its own that stands where this one stands: in the midst of a sequence too, with the rows that left it."""
         copy = type(self).__new__(type(self))
@@ -484,7 +509,7 @@ class Screen:
                 if not memory.has_room():
                     raise MemoryError("there is no memory for what is shown")
         made = make(memory.written())
-        self._idle.append(memory)
+        self._put_back(memory)
         return made
 
     def _text_by(self, call, *given):
@@ -532,9 +557,9 @@ class Screen:
         """The bytes of the cells of a row, on the screen or of those that left."""
         memory = self._idle.taken()
         with self._lock:
-            self._held(call(self._at, row, memory.cells_at, self._columns))
+            self._held(call(self._at, row, memory.cells_at, memory.columns))
         found = memory.cells.raw
-        self._idle.append(memory)
+        self._put_back(memory)
         return found
 
     def row(self, row):
@@ -580,7 +605,7 @@ class Screen:
         with self._lock:
             self._held(call(self._at, *given, memory.numbers_at, memory.second_at))
         found = tuple(memory.numbers)
-        self._idle.append(memory)
+        self._put_back(memory)
         return found
 
     def _counts(self):

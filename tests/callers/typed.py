@@ -198,7 +198,7 @@ pyte.ByteStream(emulated).feed("a")  # wrong
 pyte.Stream("80")  # wrong
 emulated.history  # wrong
 emulated.buffer[0][0] = char  # wrong
-emulated.resize(24, 80)  # wrong
+emulated.resize(24, 80)
 Screen("80")  # wrong
 Screen(80, 24, 100, 5)  # wrong
 STYLINGS["both"]

@@ -18,7 +18,6 @@ MODULES = ["test_screen", "test_diff", "test_history"]
 PARTS = ["control", "graphics", "modes", "screens", "streams"]
 
 # the line at which a test fails, in part, and why, by its module and its name
-RESIZED = "screen.resize(", "a screen keeps its size"
 ESCAPES = "pyte.Stream.escape", "a stream has no table of sequences: pages are turned by methods"
 ERASED = "ED 3 does nothing"
 DIFFERENCES = {
@@ -30,13 +29,12 @@ DIFFERENCES = {
     "test_screen.test_draw_width0_decawm_off": ("line 425,", "without autowrap a wide character without room is not shown, as in xterm"),
     "test_screen.test_draw_width2_line_end": ("line 375,", "a wide character without room goes to the next row, as in xterm; there it is cut"),
     "test_screen.test_report_device_attributes": ('CSI + "?6c"', "it is a VT220 with colours"),
-    "test_screen.test_resize": RESIZED,
-    "test_screen.test_resize_same": RESIZED,
-    "test_screen.test_restore_cursor_out_of_bounds": RESIZED,
+    "test_screen.test_resize": ("screen.resize(2, 1)", "a screen has two columns or more"),
+    "test_screen.test_restore_cursor_out_of_bounds": ("line 780,", "a reset forgets what is saved, as in xterm"),
     "test_screen.test_save_cursor": ("line 732,", "one place is saved, as in xterm; there they are stacked"),
     "test_screen.test_screen_set_icon_name_title": ("set_icon_name", "the title of an icon is not kept"),
-    "test_screen.test_set_mode": ("mo.DECCOLM", "DECCOLM is not there: a screen keeps its size"),
-    "test_diff.test_mark_whole_screen": RESIZED,
+    "test_screen.test_set_mode": ("mo.DECCOLM", "DECCOLM is not there"),
+    "test_diff.test_mark_whole_screen": ("screen.alignment_display()", "DECALN is not there"),
     "test_diff.test_modes": ("line 60,", "DECSCNM changes no cell, and mode tells it"),
     "test_diff.test_erase_in_display": ("line 127,", ERASED),
     "test_history.test_cursor_is_hidden": ESCAPES,

@@ -224,6 +224,13 @@ def method_cases(pyte):
     yield "a set draws lines", differs(screen.display[0], "ab\u2500q      ")
     yield "others are refused", raises(ValueError, "not 'U' of '('", lambda: screen.define_charset("U", "("))
     yield "it says what it is", differs(repr(screen), "Screen(10, 3)")
+    screen = fed(pyte, "abc\r\nde")
+    screen.dirty.clear()
+    screen.resize(2, 2)
+    found = screen.display, screen.columns, screen.lines, screen.dirty
+    yield "another size", differs(found, (["ab", "de"], 2, 2, {0, 1}))
+    screen.resize(columns=3)
+    yield "of columns alone", differs(screen.display, ["ab ", "de "])
     for name in ("alignment_display", "savepoints", "icon_name", "bell", "g0_charset"):
         yield "there is no %s" % name, differs(hasattr(screen, name), False)
 

@@ -19,9 +19,9 @@ What differs beside that:
 - What is erased has the background of what comes next, and nothing else of its style. ED 3 does nothing.
 - The history has what scrolled off at the top of the main screen: nothing of RI, of margins that begin lower or of the alternate screen.
 - One place is saved (DECSC), and not a stack of them.
-- A screen has 2 to 1000 columns and 1 to 1000 lines. Input is UTF-8; C1 controls, as bytes or as characters, do nothing.
+- `resize` goes by xterm's rules. A screen has 2 to 1000 columns and 1 to 1000 lines. Input is UTF-8; C1 controls, as bytes or as characters, do nothing.
 
-Not there, and an AttributeError: `resize`, DECCOLM, `alignment_display`, `savepoints`, `icon_name`, `bell`, `debug`, `g0_charset`, `before_event`,
+Not there, and an AttributeError: DECCOLM, `alignment_display`, `savepoints`, `icon_name`, `bell`, `debug`, `g0_charset`, `before_event`,
 DebugScreen, `Stream.escape` and its like, `strict` of a stream, `use_utf8`, the module `charsets`.
 """
 

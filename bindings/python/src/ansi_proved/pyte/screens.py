@@ -219,6 +219,11 @@ class Screen:
         self._proved.reset()
         self._returns, self._is_noted = False, False
 
+    def resize(self, lines=None, columns=None):
+        """Takes another size, by xterm's rules: lines below the cursor are cut before those at the top leave. 0 and None leave a side as it is."""
+        self._proved.resize(columns or self.columns, lines or self.lines)
+        self._rows, self._is_noted = {}, False
+
     def _note(self):
         """Takes up what can have changed since it did so last: these lines are dirty, and their rows are read anew."""
         if self._is_noted:
@@ -423,6 +428,10 @@ class HistoryScreen(Screen):
     def reset(self):
         self._turn(0)
         super().reset()
+
+    def resize(self, lines=None, columns=None):
+        self._turn(0)
+        super().resize(lines, columns)
 
     def prev_page(self):
         """Turns a page back, as far as lines are kept and the page's number is above that of the lines."""
